@@ -1,0 +1,5 @@
+-- The three demands, and how they follow from the definitions' laws.
+pub mod Words
+pub mod Demands
+pub mod Proofs
+pub mod Pair

@@ -1,0 +1,48 @@
+-- The words of Demands.antt, each short for what the definitions say.
+use mathlib.Core.Path.{_≡_}
+use mathlib.Core.List.{List}
+use Prim.Native.Nat.{ℕ, _+_, _*_, _<_}
+use lib.ListN.{getD}
+use Rattle.basis.specs.Parts.{part}
+use Rattle.rules.specs.DayFile.{messageCount}
+use Rattle.rules.specs.Tree.{Content}
+use Rattle.rules.specs.Asked.{readTree, dayQuestions, firstDifferent}
+use Rattle.rules.specs.Sets.{Question}
+use Rattle.rules.specs.Memory.{slotsLent}
+use Rattle.rules.specs.Run.{Lent, Given}
+use Rattle.rules.specs.Promise.{RunPromise}
+use Rattle.rules.specs.Order.{Reordered}
+
+-- the promise allows g for l, the run is not refused, and k is one of its messages (message 1 of the paper is k = 0)
+pub record Answered (l : Lent) (g : Given) (k : ℕ) : Type 0 where
+  pub promised : RunPromise l g
+  pub accepted : g .refusal ≡ 0
+  pub within : k < messageCount (l .day)
+
+-- the three answer numbers of message k; its refusal; its filters
+abbrev pub rowOf : Given → ℕ → List ℕ
+rowOf g k = part (g .answers) (3 * k) 3
+
+abbrev pub refusalOf : Given → ℕ → ℕ
+refusalOf g k = getD (g .answers) (3 * k) 0
+
+abbrev pub filtersOf : Given → ℕ → ℕ
+filtersOf g k = getD (g .answers) (3 * k + 2) 0
+
+-- the root that a message's bytes are read to
+abbrev pub rootOf : List ℕ → Content
+rootOf body = readTree body .root
+
+-- a message with its children, at any depth, in another order
+abbrev pub Permuted : Content → Content → Type 0
+Permuted c d = (c .text ≡ d .text) × Reordered (c .children) (d .children)
+
+-- C; the questions of the day file, in the order asked; the first C different ones of them
+abbrev pub C : Lent → ℕ
+C l = slotsLent (l .memory)
+
+abbrev pub questions : Lent → List Question
+questions l = dayQuestions (l .book) (l .day)
+
+abbrev pub kept : Lent → List Question
+kept l = firstDifferent (C l) (questions l)
