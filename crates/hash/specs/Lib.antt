@@ -1,0 +1,2 @@
+-- The hash of a question.
+pub mod Hash
