@@ -1,0 +1,3 @@
+-- What each event does to the reader's state and to all that is lent, and that it is what the rules say.
+pub mod Step
+pub mod Laws

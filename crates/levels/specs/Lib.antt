@@ -1,0 +1,2 @@
+-- What a level of the workspace is, and the laws of work on one level.
+pub mod Level

@@ -1,0 +1,13 @@
+use Rattle.pass.specs.Passing.{root-read, root-refused}
+use Rattle.contents.specs.Accepted.{accepted}
+use borrow.Author.Needs.{needs}
+use Rattle.pass.proofs.root_filters.Statement.{statement}
+use Rattle.pass.proofs.root_filters.Tie as tie
+use Rattle.pass.proofs.root_filters.Reads as reads
+use Rattle.pass.proofs.root_filters.Lts as lts
+use Rattle.root.proofs.filters.Reads as filters-reads
+
+pub root-filters-spec : {M : Type 1} → statement M
+root-filters-spec =
+    tie.close
+    (tie.spec (λ c. search needs) (λ c. search needs) (λ c. search needs) (λ c κs. (search needs, search (accepted, needs), search needs)) (λ c. search (root-read, root-refused, needs)) (λ c. search (root-read, root-refused, needs)))
