@@ -15,11 +15,10 @@ use Rattle.rules.specs.Memory.{slotsLent}
 use Rattle.rules.specs.MemoryLaws.{lent-fits}
 use Rattle.rules.specs.Run.{Lent, Given, lentChecks, runRefusal, refusedRun, passDay, atFirst, run}
 use Rattle.rules.specs.RunLaws.{run-refused, run-accepted}
-use Rattle.daycheck.specs.Accepted as day
 use Rattle.planner.specs.Make.{Made}
 use Rattle.plan.specs.Plan.{PlanOf}
 use Rattle.pass.specs.declared.Totals.{Totals}
-use Rattle.pass.specs.Passing.{carriedOf, lentOf, givenOf}
+use Rattle.pass.specs.Passing.{carriedOf, lentOf, givenOf, day-two}
 use Rattle.engine.specs.declared.Total.{Total}
 use Rattle.engine.specs.Engine.{totalGiven, countsOff, fromRefusal, passFrom, Accepted}
 
@@ -159,4 +158,4 @@ module _ (book day memory answers ws : List ℕ) where
       from-passes r m a w z e = e ∙ sym (pick-true _ _ _ (eq-eqb _ _ (sym told ∙ z)))
 
 pub two-bytes : (d : List ℕ) (n : ℕ) → n ≡ dayRefusal d → n ≡ 0 → 2 ≤ length d
-two-bytes d n e z = let a : day.Accepted d = day.accepted d (sym e ∙ z) in omega arith
+two-bytes d n e z = day-two d (sym e ∙ z)

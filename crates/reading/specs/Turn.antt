@@ -2,28 +2,28 @@
 use mathlib.Core.Path.{_≡_, refl, sym, _∙_, ap, ap₂, subst}
 use mathlib.Core.Bool.{Bool, true, false, _||_, _&&_, not}
 use mathlib.Core.List.{List, [], _∷_, _++_}
-use mathlib.Core.Option.{Option, none, some}
 use Prim.Native.Nat.{ℕ, zero, suc, _+_, _-_, _*_, _<_, _≤_}
 use native.Mathlib.Numerals.{add-one}
 use native.Mathlib.Omega.{arith}
 use native.Mathlib.Decide.{decLt, ℕ-discrete}
-use lib.Dec.{eqb, ltb, leb}
+use lib.Dec.{eqb}
 use lib.ListN.{length, getD, take, drop, drop-of-length-le}
 use lib.Seq.{drop-cons, drop-drop}
 use borrow.Author.Tests.{lt-ltb, le-ltb, eq-eqb, ne-eqb, ltb-true, ltb-false, eqb-true, eqb-false}
-use Rattle.basis.specs.Choice.{pick, pick-cases}
+use Rattle.basis.specs.Choice.{pick-cases}
 use Rattle.basis.specs.Parts.{part, part-long}
 use Rattle.rules.specs.Bytes.{le2}
 use Rattle.rules.specs.State.{State, attribute}
 use Rattle.rules.specs.Value.{textValue}
 use Rattle.rules.specs.Message.{Event, start, end, text, First, bad, got, labelled, texted, firstEvent, Reading, startRefusal, isOut, stageAfter, Next, refused, on, Outcome, outcome, onEvent, events}
 use Rattle.rules.specs.Sets.{leavesOf, Question}
-use Rattle.rules.specs.Memory.{Kept, Reply, questionIn, firstSlot, keep, replyBy, ask, slotsLent}
+use Rattle.rules.specs.Memory.{Kept, questionIn, ask}
 use Rattle.rules.specs.Pass.{Carried, asking}
 use Rattle.rules.specs.EventLaws.{events-skip, events-broken, event-refused, first-kind}
 use Rattle.rules.specs.RunLaws.{accepted-event, refused-event}
 use Rattle.levels.specs.Level.{levelAt, withLevel, opened, staged, joined, opened-long, staged-long, joined-long, with-long, past-levels}
 use Rattle.ask.specs.declared.Counts.{Counts}
+use Rattle.ask.specs.Laws.{ask-anew}
 use Rattle.events.specs.declared.Reader.{Reader}
 use Rattle.events.specs.declared.Step.{Step}
 use Rattle.events.specs.declared.Step.the-variants.{Next as Onward, Refused}
@@ -101,18 +101,6 @@ module _ (body ws m : List ℕ) (s : Reader) (deep : s .depth ≤ 64) (room : 65
         asked = omega arith;
         anew = omega arith;
       })))
-
--- a question answered raises the count worked out anew by one at most
-ask-anew : (b : List State) (q : Question) (k : Kept) → (ask b q k) .kept .anew ≤ k .anew + 1
-unfolding ask
-ask-anew b q k = go (firstSlot (k .memory) (k .filled) q)
-  where
-    fresh : (a : List ℕ) → (keep q a k) .anew ≤ k .anew + 1
-    fresh a = unfold keep in pick-cases (λ (y : Kept). y .anew ≤ k .anew + 1) (ltb (k .filled) (slotsLent (k .memory))) (λ e. omega arith) (λ e. omega arith)
-
-    go : (o : Option ℕ) → (replyBy o b q k) .kept .anew ≤ k .anew + 1
-    go (some i) = unfold replyBy in omega arith
-    go none = unfold replyBy in fresh _
 
 module _ (body : List ℕ) (b : List State) (ws m : List ℕ) (s : Reader) (deep : s .depth ≤ 64) (room : 650 ≤ length ws) where
   abbrev Fine : ℕ → Step × List ℕ × List ℕ → Type 0
