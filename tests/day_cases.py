@@ -1,5 +1,5 @@
 #!/usr/bin/env python3
-"""Runs the day program, target/bin/day, on cases at both sides of each limit. What it must print is written out here by hand."""
+"""Runs the day program, target/bin/day_program, on cases at both sides of each limit. What it must print is written out here by hand."""
 import os
 import subprocess
 import sys
@@ -9,7 +9,7 @@ from small_day import (CALL, DAY, NOT, SERVICE, SMALL_BOOK, SMALL_DAY, STEP, TRU
                        book, day, end, node, start, state, text, u16, u32)
 
 TOP = os.path.dirname(os.path.dirname(os.path.abspath(__file__)))
-PROGRAM = os.path.join(TOP, "target", "bin", "day")
+PROGRAM = os.path.join(TOP, "target", "bin", "day_program")
 ANY = [(7, [state(TRUE)])]  # a filter that is true of every message read
 
 

@@ -1,7 +1,7 @@
 #!/usr/bin/env python3
 """The small day of the paper, written out from its words: small/book.bin (154 bytes) and small/day.bin (171 bytes).
 
-small_day.py            compares the two files, and the bytes in crates/rules/specs/Small.antt, with what the words give
+small_day.py            compares the two files, and the bytes in crates/rules/specs/ASmallDay.antt, with what the words give
 small_day.py --write    writes them
 """
 import os
@@ -113,7 +113,7 @@ LISTS = [
 
 def antt():
     out = ["-- The bytes of the small day and of a few messages beside it, written by tests/small_day.py.",
-           "use mathlib.Core.List.{List, [], _∷_}", "use Prim.Native.Nat.{ℕ}"]
+           "use mathlib.Core.List.{List, [], _∷_}", "use Prim.Native.Nat.{ℕ}", "pub mod Examples"]
     for name, what, data in LISTS:
         numbers = [str(b) for b in data]
         rows = [" ∷ ".join(numbers[i:i + 24]) for i in range(0, len(numbers), 24)]
@@ -121,7 +121,7 @@ def antt():
     return "\n".join(out) + "\n"
 
 
-FILES = [("small/book.bin", SMALL_BOOK), ("small/day.bin", SMALL_DAY), ("crates/rules/specs/Small.antt", antt().encode())]
+FILES = [("small/book.bin", SMALL_BOOK), ("small/day.bin", SMALL_DAY), ("crates/rules/specs/ASmallDay.antt", antt().encode())]
 
 
 def main():

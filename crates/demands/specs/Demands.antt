@@ -1,128 +1,147 @@
--- The three demands, each sentence as a theorem about any outcome g that the run's promise allows for what l lends it.
--- To be believed, a theorem needs its own words and the definitions that they name, in crate rules: Promise (the promises), Run (what is lent and given back),
--- Asked (a message read to its tree, the questions of a day), Match (the match rule), Memory (slots, the inner call), and the short words in Words.antt beside this file.
--- What follows the last `=` is proof.
+-- The three demands: a record each, a field a sentence, and a theorem each: every outcome g which the run's promise
+-- allows for what l lends has it. What must be believed is the records, and the definitions that they name:
+--   in this crate, specs/Words;
+--   in crate rules, specs/ ASmallDay, Bytes, State, Book, DayFile, Value, Written, Message, Tree, Match, Order, Sets,
+--   Memory, Pass, Asked, Run, Calls, Promise;
+--   in crate lists, specs/ Choice, Parts, Below, Checks, Same, Lending.
+-- Nothing in a folder behind one of these files need be believed, and nothing here after the last `=`: it is proof.
+-- tests/believed.py follows the names, and counts.
 use mathlib.Core.{Path._≡_, Path.refl, Path.sym, Path._∙_, Path.ap, Path.ap₂, Bool.Bool, Bool.true, Logic._↔_, List.List, List.[], List._++_}
 use Prim.Native.Nat.{ℕ, _+_, _*_, _<_}
 use lib.ListN.{length, getD, drop, replicate}
-use Rattle.basis.specs.{Parts.part, Checks.Given as FirstToFail}
-use Rattle.rules.specs.{State.State, Book.filterCount, Book.statesBefore, Book.statesOf, DayFile.messageCount, DayFile.messageBody, Tree.Content, Written.written, Written.messageShaped}
-use Rattle.rules.specs.{Match.matches, Match.acceptedFilters, Asked.readTree, Asked.notKept, Sets.Question, Sets.either}
-use Rattle.rules.specs.{Memory.slotAnswer, Memory.Kept, Memory.ask, Pass.Carried, Pass.asking, Run.Lent, Run.Given, Run.run, Promise.RunPromise, Promise.BodyPromise}
-use Rattle.rules.specs.{SetLaws.bitAt, MatchLaws.Reads, RunLaws.runChecks, MemoryLaws.FirstOf, KeptLaws.slotsWritten, PassLaws.messageRow}
-use Rattle.rules.specs.{DayLaws.HeldRight, DayLaws.dayNodes, DayLaws.withMemory, Message.Event, EventLaws.AreBytes, EventLaws.writtenEvents, BeginLaws.Message, BeginLaws.Begins}
-use Rattle.rules.specs.RefusedAt
-use Rattle.rules.specs.RefusedAt.{Stuck}
-use Rattle.demands.specs.Words.{Answered, rowOf, refusalOf, filtersOf, rootOf, Permuted, C, questions, kept}
-use Rattle.demands.specs.Proofs
-use Rattle.demands.specs.Pair
+use Rattle.lists.specs.Checks.{FirstToFail}
+use Rattle.rules.specs.{State.State, Book.filterCount, Book.statesBefore, Book.statesOf, DayFile.messageCount, DayFile.messageBody}
+use Rattle.rules.specs.{Tree.Content, Match.matches, Match.acceptedFilters, Match.MatchRule, Message.Event}
+use Rattle.rules.specs.{Written.written, Written.messageShaped, Written.AreBytes, Written.writtenEvents, Written.IsMessage, Written.Begins, Written.Stuck}
+use Rattle.rules.specs.{Sets.bitAt, Sets.Question, Sets.either, Memory.FirstToAsk, Memory.slotAnswer, Memory.slotsWritten, Memory.Kept, Memory.ask}
+use Rattle.rules.specs.{Pass.Carried, Pass.asking, Run.Lent, Run.Returned, Run.runChecks, Run.run, Run.withMemory, Promise.RunPromise, Promise.one-run}
+use Rattle.rules.specs.{Asked.readTree, Asked.messageRow, Asked.notKept, Asked.HeldRight, Asked.dayNodes}
+use Rattle.rules.specs.Message.Place
+use Rattle.demands.specs.Words.{MessageAnswered, rowOf, refusalOf, filtersOf, rootOf, Permuted, C, questions, keptQuestions, smallOne, smallTwo, smallRenamed}
+pub mod Proofs
+pub mod Pair
 
 -- ── demand 1 ──
--- Every input gets exactly one answer: there is one, and two that a promise allows are the same.
--- By opening RunPromise and BodyPromise, each one equation over the result and all that is lent.
-pub some-answer : (l : Lent) → (g : Given) × RunPromise l g
-some-answer l = (run l, refl)
+pub record Demand1 (l : Lent) (g : Returned) : Type 0 where
+  -- "Every filter book, day file and lent memory gets an answer": there is one, and it is the only one.
+  pub some-answer : (h : Returned) × RunPromise l h
+  pub one-answer : (h : Returned) → RunPromise l h → h ≡ g
+  -- "A bad book, a bad day file or too little lent memory is refused by number": by n exactly if the condition of row
+  -- n of the refusal table holds and no earlier row's does.
+  pub refused-exactly : (n : ℕ) → 0 < n → (g .refusal ≡ n) ↔ FirstToFail (runChecks l) n
+  -- "and nothing lent is altered"; the counts are 0.
+  pub refused-keeps : (g .refusal ≡ 0 → ⊥) →
+      (g .memory ≡ l .memory) × (g .answers ≡ l .answers) × (g .workspace ≡ l .workspace) × (g .asked ≡ 0) × (g .anew ≡ 0) × (g .filled ≡ 0)
+  -- A run that is not refused leaves the answers past its messages as they were, the first 650 of the workspace 0 and
+  -- the rest as it was.
+  pub past-kept : g .refusal ≡ 0 →
+      (drop (3 * messageCount (l .day)) (g .answers) ≡ drop (3 * messageCount (l .day)) (l .answers)) ×
+      (g .workspace ≡ replicate 650 0 ++ drop 650 (l .workspace))
+  -- "a bad message is refused by number and place": at a place exactly if the events before it begin some readable
+  -- message, it is none itself, and none begins with them and the event there. (Where no whole event stands there,
+  -- which is 22 and 29, the last part says nothing: a message cut short may begin a readable one. Of 21 see
+  -- Place.no-kind.) Every refused message has such events before its place.
+  pub refused-there : (evs : List Event) (rest : List ℕ) → AreBytes (writtenEvents evs ++ rest) →
+      ((0 < readTree (writtenEvents evs ++ rest) .refusal) × (readTree (writtenEvents evs ++ rest) .place ≡ length (writtenEvents evs)))
+      ↔ (Begins (writtenEvents evs) × (IsMessage (writtenEvents evs ++ rest) → ⊥) × Stuck evs rest)
+  pub refused-where : (body : List ℕ) → AreBytes body → 0 < readTree body .refusal →
+      (evs : List Event) × (rest : List ℕ) × (body ≡ writtenEvents evs ++ rest) × (readTree body .place ≡ length (writtenEvents evs))
+  -- "matches no filter".
+  pub refused-message : (k : ℕ) → MessageAnswered l g k → (refusalOf g k ≡ 0 → ⊥) → filtersOf g k ≡ 0
+  -- "and the messages after it are still read": a message's row follows from the book and its own bytes, and no other
+  -- message, no C and nothing lent before enters; so the same bytes have the same row in any two runs with the same
+  -- book.
+  pub row-alone : (k : ℕ) → MessageAnswered l g k → rowOf g k ≡ messageRow (l .book) (messageBody (l .day) k)
+  pub same-bytes : (k : ℕ) → MessageAnswered l g k → {m : Lent} {h : Returned} {j : ℕ} → MessageAnswered m h j → l .book ≡ m .book →
+      messageBody (l .day) k ≡ messageBody (m .day) j → rowOf g k ≡ rowOf h j
 
-pub one-answer : (l : Lent) (g h : Given) → RunPromise l g → RunPromise l h → g ≡ h
-one-answer l g h p q = p ∙ sym q
+pub demand-1 : {l : Lent} {g : Returned} → RunPromise l g → Demand1 l g
+demand-1 {l} {g} p = record {
+  some-answer = (run l, refl);
+  one-answer = λ h q. one-run l q p;
+  refused-exactly = Proofs.refused-by l g p;
+  refused-keeps = Proofs.refused-keeps l g p;
+  past-kept = λ e. (Proofs.answers-past l g p e, Proofs.workspace-is l g p e);
+  refused-there = Place.refused-at;
+  refused-where = Place.refused-where;
+  refused-message = λ k one. Proofs.given-refused l g (one .promised) (one .accepted) k (one .within);
+  row-alone = λ k one. Proofs.given-row l g (one .promised) (one .accepted) k (one .within);
+  same-bytes = λ k one {m} {h} {j} other b e.
+      Proofs.given-row l g (one .promised) (one .accepted) k (one .within) ∙ ap₂ messageRow b e
+      ∙ sym (Proofs.given-row m h (other .promised) (other .accepted) j (other .within));
+}
 
-pub one-body : (book : List ℕ) (id : ℕ) (s t : List ℕ) → BodyPromise book id s → BodyPromise book id t → s ≡ t
-one-body book id s t p q = p ∙ sym q
-
--- A run is refused by number n exactly if the condition of row n of the refusal table holds and no earlier row's does.
-pub refused-exactly : (l : Lent) (g : Given) → RunPromise l g → (n : ℕ) → 0 < n → (g .refusal ≡ n) ↔ FirstToFail (runChecks l) n
-refused-exactly = Proofs.refused-by
-
--- A refused run alters nothing lent, and its counts are 0. By opening Run.refusedRun.
-pub refused-keeps : (l : Lent) (g : Given) → RunPromise l g → (g .refusal ≡ 0 → ⊥) →
-    (g .memory ≡ l .memory) × (g .answers ≡ l .answers) × (g .workspace ≡ l .workspace) × (g .asked ≡ 0) × (g .anew ≡ 0) × (g .filled ≡ 0)
-refused-keeps = Proofs.refused-keeps
-
--- A run that is not refused leaves the answers past its messages as they were, the first 650 of the workspace 0 and the rest as it was.
-pub past-kept : (l : Lent) (g : Given) → RunPromise l g → g .refusal ≡ 0 →
-    (drop (3 * messageCount (l .day)) (g .answers) ≡ drop (3 * messageCount (l .day)) (l .answers)) × (g .workspace ≡ replicate 650 0 ++ drop 650 (l .workspace))
-past-kept l g p e = (Proofs.answers-past l g p e, Proofs.workspace-is l g p e)
-
--- A message is refused at a place exactly if the events before it begin some readable message, it is none itself, and none begins with them and the event there.
--- (Where no whole event stands there, which is 22 and 29, the last part says nothing: a message cut short may begin a readable one. Of 21 see RefusedAt.no-kind.)
-pub refused-there : (evs : List Event) (rest : List ℕ) → AreBytes (writtenEvents evs ++ rest) →
-    ((0 < readTree (writtenEvents evs ++ rest) .refusal) × (readTree (writtenEvents evs ++ rest) .place ≡ length (writtenEvents evs)))
-    ↔ (Begins (writtenEvents evs) × (Message (writtenEvents evs ++ rest) → ⊥) × Stuck evs rest)
-refused-there = RefusedAt.refused-at
-
--- Every refused message has such events before its place.
-pub refused-where : (body : List ℕ) → AreBytes body → 0 < readTree body .refusal →
-    (evs : List Event) × (rest : List ℕ) × (body ≡ writtenEvents evs ++ rest) × (readTree body .place ≡ length (writtenEvents evs))
-refused-where = RefusedAt.refused-where
-
-module _ {l : Lent} {g : Given} {k : ℕ} (one : Answered l g k) where
-  -- A refused message has no filters.
-  pub refused-message : (refusalOf g k ≡ 0 → ⊥) → filtersOf g k ≡ 0
-  refused-message = Proofs.given-refused l g (one .promised) (one .accepted) k (one .within)
-
-  -- A message's row follows from the book and its own bytes: no other message, no C and nothing lent before enters.
-  pub row-alone : rowOf g k ≡ messageRow (l .book) (messageBody (l .day) k)
-  row-alone = Proofs.given-row l g (one .promised) (one .accepted) k (one .within)
-
-  pub same-bytes : {m : Lent} {h : Given} {j : ℕ} → Answered m h j → l .book ≡ m .book → messageBody (l .day) k ≡ messageBody (m .day) j → rowOf g k ≡ rowOf h j
-  same-bytes {m} {h} {j} other b e = row-alone ∙ ap₂ messageRow b e ∙ sym (Proofs.given-row m h (other .promised) (other .accepted) j (other .within))
-
-  -- ── demand 2 ──
-  -- A message is read to a tree exactly if its bytes are that tree's events written out, and the tree has the shape of a message. (The day file is one of bytes.)
-  pub read-exactly : ((i : ℕ) → getD (l .day) i 0 < 256) → (root : Content) →
+-- ── demand 2 ──
+pub record Demand2 (l : Lent) (g : Returned) (k : ℕ) : Type 0 where
+  -- "For each message read": it is read to a tree exactly if its bytes are that tree's events written out, and the
+  -- tree has the shape of a message. (The day file is one of bytes.)
+  pub read-exactly : AreBytes (l .day) → (root : Content) →
       ((refusalOf g k ≡ 0) × (rootOf (messageBody (l .day) k) ≡ root)) ↔ ((messageBody (l .day) k ≡ written (root .children)) × (messageShaped root ≡ true))
-  read-exactly = Proofs.given-tree l g (one .promised) (one .accepted) k (one .within)
-
-  -- Of a message that is read, the filters are exactly those that accept it by the match rule: as one number, and filter by filter.
+  -- "the filters reported are exactly those whose alternating automaton, by the written match rule, accepts the
+  -- message's tree": as one number, and filter by filter.
   pub filters-exactly : refusalOf g k ≡ 0 → filtersOf g k ≡ acceptedFilters (l .book) (rootOf (messageBody (l .day) k))
-  filters-exactly = Proofs.given-read l g (one .promised) (one .accepted) k (one .within)
-
   pub filter-exactly : refusalOf g k ≡ 0 → (i : ℕ) → i < filterCount (l .book) →
       bitAt (filtersOf g k) i ≡ matches (statesOf (l .book)) (rootOf (messageBody (l .day) k)) (statesBefore (l .book) i)
-  filter-exactly e i u = ap (λ n. bitAt n i) (filters-exactly e) ∙ Proofs.accepted-bit (l .book) (rootOf (messageBody (l .day) k)) i u
-
   -- The match rule has one reading: any function with its laws, state kind by state kind, is `matches`.
-  pub one-reading : (m : Content → ℕ → Bool) → Reads (statesOf (l .book)) m → (n : Content) (j : ℕ) → j < length (statesOf (l .book)) → m n j ≡ matches (statesOf (l .book)) n j
-  one-reading = Proofs.given-reading l g (one .promised) (one .accepted)
-
-  -- Two messages that are read, one the other with its children in another order, get the same filters.
-  pub any-order : {m : Lent} {h : Given} {j : ℕ} → Answered m h j → l .book ≡ m .book → refusalOf g k ≡ 0 → refusalOf h j ≡ 0 →
+  pub one-reading : (m : Content → ℕ → Bool) → MatchRule (statesOf (l .book)) m → (n : Content) (j : ℕ) → j < length (statesOf (l .book)) →
+      m n j ≡ matches (statesOf (l .book)) n j
+  -- "Two readable messages that differ only in the order of an element's attributes or child elements get the same
+  -- filters."
+  pub any-order : {m : Lent} {h : Returned} {j : ℕ} → MessageAnswered m h j → l .book ≡ m .book → refusalOf g k ≡ 0 → refusalOf h j ≡ 0 →
       Permuted (rootOf (messageBody (l .day) k)) (rootOf (messageBody (m .day) j)) → filtersOf g k ≡ filtersOf h j
-  any-order {m} {h} {j} other b e d p =
-      filters-exactly e ∙ Proofs.accepted-permuted b (p .0) (p .1) ∙ sym (Proofs.given-read m h (other .promised) (other .accepted) j (other .within) d)
 
--- Messages 1 and 2 of the small day are such a pair. Message 1 with one label changed, read too (Pair.pair-read), is none (Proofs.one-label says it of any tree).
-pub small-pair : Permuted (rootOf Pair.one) (rootOf Pair.two) × (Permuted (rootOf Pair.one) (rootOf Pair.renamed) → ⊥)
+pub demand-2 : {l : Lent} {g : Returned} {k : ℕ} → MessageAnswered l g k → Demand2 l g k
+demand-2 {l} {g} {k} one = record {
+  read-exactly = Proofs.given-tree l g (one .promised) (one .accepted) k (one .within);
+  filters-exactly = Proofs.given-read l g (one .promised) (one .accepted) k (one .within);
+  filter-exactly = λ e i u.
+      ap (λ n. bitAt n i) (Proofs.given-read l g (one .promised) (one .accepted) k (one .within) e)
+      ∙ Proofs.accepted-bit (l .book) (rootOf (messageBody (l .day) k)) i u;
+  one-reading = Proofs.given-reading l g (one .promised) (one .accepted);
+  any-order = λ {m} {h} {j} other b e d p.
+      Proofs.given-read l g (one .promised) (one .accepted) k (one .within) e ∙ Proofs.accepted-permuted b (p .0) (p .1)
+      ∙ sym (Proofs.given-read m h (other .promised) (other .accepted) j (other .within) d);
+}
+
+-- Messages 1 and 2 of the small day are such a pair. Message 1 with one label changed, read too (Pair.pair-read), is
+-- none (Proofs.one-label says it of any tree).
+pub small-pair : Permuted (rootOf smallOne) (rootOf smallTwo) × (Permuted (rootOf smallOne) (rootOf smallRenamed) → ⊥)
 small-pair = (Pair.pair-reordered, λ p. Pair.renamed-apart (p .1))
 
 -- ── demand 3 ──
--- A question that the memory holds gets its kept answer, right or wrong, and nothing changes: at the inner call, for any slots. Slot i is the first that asks q.
-pub kept-answer : (b : List State) (q : Question) (k : Kept) (i : ℕ) → FirstOf (k .memory) (k .filled) q i → ask b q k ≡ record { answer = slotAnswer (k .memory) i; kept = k }
-kept-answer = Proofs.first-held
-
--- The run gets each answer from the inner call alone, called once a question, and joins it as it stands to the parent's set. By opening Pass.askAndJoin.
-pub answer-joined : (b : List State) (x : ℕ) (set up : List ℕ) (c : Carried) → let r = ask b (record { states = set; label = x }) (c .kept) in
-    (asking b) .shut x set up c ≡ (either up (r .answer), record { asked = c .asked + 1; kept = r .kept })
-answer-joined b x set up c = refl
-
-module _ (l : Lent) (g : Given) (promised : RunPromise l g) (accepted : g .refusal ≡ 0) where
+pub record Demand3 (l : Lent) (g : Returned) : Type 0 where
+  -- "a question the memory holds gets its kept answer", right or wrong, and nothing changes: at the inner call, for
+  -- any slots. Slot i is the first that asks q.
+  pub kept-answer : (b : List State) (q : Question) (k : Kept) (i : ℕ) → FirstToAsk (k .memory) (k .filled) q i →
+      ask b q k ≡ record { answer = slotAnswer (k .memory) i; kept = k }
+  -- The run gets each answer from the inner call alone, called once a question, and joins it as it stands to the
+  -- parent's set. By opening Pass.askAndJoin.
+  pub answer-joined : (b : List State) (x : ℕ) (set up : List ℕ) (c : Carried) → let r = ask b (record { states = set; label = x }) (c .kept) in
+      (asking b) .shut x set up c ≡ (either up (r .answer), record { asked = c .asked + 1; kept = r .kept })
   -- The count asked is the number of the day file's questions, those of refused messages included.
-  pub asked-is : g .asked ≡ length (questions l)
-  asked-is = Proofs.asked-is l g promised accepted
+  pub asked-is : g .refusal ≡ 0 → g .asked ≡ length (questions l)
+  -- "answers worked out anew number exactly the questions not among the first C different ones asked earlier in that
+  -- file".
+  pub anew-is : g .refusal ≡ 0 → g .anew ≡ notKept (C l) [] (questions l)
+  -- "Afterwards the memory holds just the first C different questions (all, if fewer), in order of first asking";
+  -- memory past them is as it was.
+  pub memory-is : g .refusal ≡ 0 → (g .filled ≡ length (keptQuestions l)) ×
+      (g .memory ≡ slotsWritten (statesOf (l .book)) (keptQuestions l) ++ drop (17 * length (keptQuestions l)) (l .memory))
+  -- "with their right answers": each slot holds the question of a node that closed in the day file, and that node's
+  -- right answer by the match rule.
+  pub answers-right : g .refusal ≡ 0 → (i : ℕ) → i < g .filled → HeldRight (statesOf (l .book)) (dayNodes (l .day)) (g .memory) i
+  -- "Any other C", that is any other memory lent, "gives the same filters and refusals": the run's number, and every
+  -- answer.
+  pub any-memory : (m : List ℕ) (h : Returned) → RunPromise (withMemory l m) h →
+      (h .refusal ≡ g .refusal) × (h .answers ≡ g .answers) × (h .asked ≡ g .asked)
 
-  -- The count worked out anew is the number of questions that are not among the first C different ones asked earlier in the file.
-  pub anew-is : g .anew ≡ notKept (C l) [] (questions l)
-  anew-is = Proofs.anew-is l g promised accepted
-
-  -- The slots filled are those of the first C different questions, in order of first asking; memory past them is as it was.
-  pub memory-is : (g .filled ≡ length (kept l)) × (g .memory ≡ slotsWritten (statesOf (l .book)) (kept l) ++ drop (17 * length (kept l)) (l .memory))
-  memory-is = (Proofs.filled-is l g promised accepted, Proofs.memory-is l g promised accepted)
-
-  -- Each holds the question of a node that closed in the day file, and that node's right answer by the match rule.
-  pub answers-right : (i : ℕ) → i < g .filled → HeldRight (statesOf (l .book)) (dayNodes (l .day)) (g .memory) i
-  answers-right = Proofs.slots-right l g promised accepted
-
--- Any other C, that is any other memory lent, gives the same filters and refusals: the run's number, and every answer.
-pub any-memory : (l : Lent) (m : List ℕ) (g h : Given) → RunPromise l g → RunPromise (withMemory l m) h →
-    (h .refusal ≡ g .refusal) × (h .answers ≡ g .answers) × (h .asked ≡ g .asked)
-any-memory = Proofs.any-memory
+pub demand-3 : {l : Lent} {g : Returned} → RunPromise l g → Demand3 l g
+demand-3 {l} {g} p = record {
+  kept-answer = Proofs.first-held;
+  answer-joined = λ b x set up c. refl;
+  asked-is = Proofs.asked-is l g p;
+  anew-is = Proofs.anew-is l g p;
+  memory-is = λ e. (Proofs.filled-is l g p e, Proofs.memory-is l g p e);
+  answers-right = Proofs.slots-right l g p;
+  any-memory = λ m h q. Proofs.any-memory l m g h p q;
+}

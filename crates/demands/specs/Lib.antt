@@ -1,5 +1,3 @@
 -- The three demands, and how they follow from the definitions' laws.
 pub mod Words
 pub mod Demands
-pub mod Proofs
-pub mod Pair

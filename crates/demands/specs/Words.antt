@@ -2,31 +2,32 @@
 use mathlib.Core.Path.{_≡_}
 use mathlib.Core.List.{List}
 use Prim.Native.Nat.{ℕ, _+_, _*_, _<_}
-use lib.ListN.{getD}
-use Rattle.basis.specs.Parts.{part}
-use Rattle.rules.specs.DayFile.{messageCount}
+use lib.ListN.{getD, set}
+use Rattle.lists.specs.Parts.{part}
+use Rattle.rules.specs.DayFile.{messageCount, messageBody}
 use Rattle.rules.specs.Tree.{Content}
 use Rattle.rules.specs.Asked.{readTree, dayQuestions, firstDifferent}
 use Rattle.rules.specs.Sets.{Question}
 use Rattle.rules.specs.Memory.{slotsLent}
-use Rattle.rules.specs.Run.{Lent, Given}
+use Rattle.rules.specs.Run.{Lent, Returned}
 use Rattle.rules.specs.Promise.{RunPromise}
 use Rattle.rules.specs.Order.{Reordered}
+use Rattle.rules.specs.ASmallDay as Small
 
 -- the promise allows g for l, the run is not refused, and k is one of its messages (message 1 of the paper is k = 0)
-pub record Answered (l : Lent) (g : Given) (k : ℕ) : Type 0 where
+pub record MessageAnswered (l : Lent) (g : Returned) (k : ℕ) : Type 0 where
   pub promised : RunPromise l g
   pub accepted : g .refusal ≡ 0
   pub within : k < messageCount (l .day)
 
 -- the three answer numbers of message k; its refusal; its filters
-abbrev pub rowOf : Given → ℕ → List ℕ
+abbrev pub rowOf : Returned → ℕ → List ℕ
 rowOf g k = part (g .answers) (3 * k) 3
 
-abbrev pub refusalOf : Given → ℕ → ℕ
+abbrev pub refusalOf : Returned → ℕ → ℕ
 refusalOf g k = getD (g .answers) (3 * k) 0
 
-abbrev pub filtersOf : Given → ℕ → ℕ
+abbrev pub filtersOf : Returned → ℕ → ℕ
 filtersOf g k = getD (g .answers) (3 * k + 2) 0
 
 -- the root that a message's bytes are read to
@@ -44,5 +45,15 @@ C l = slotsLent (l .memory)
 abbrev pub questions : Lent → List Question
 questions l = dayQuestions (l .book) (l .day)
 
-abbrev pub kept : Lent → List Question
-kept l = firstDifferent (C l) (questions l)
+abbrev pub keptQuestions : Lent → List Question
+keptQuestions l = firstDifferent (C l) (questions l)
+
+-- messages 1 and 2 of the small day; message 1 with its first `late`, label 3, renamed to 4
+abbrev pub smallOne : List ℕ
+smallOne = messageBody Small.day 0
+
+abbrev pub smallTwo : List ℕ
+smallTwo = messageBody Small.day 1
+
+abbrev pub smallRenamed : List ℕ
+smallRenamed = set (set smallOne 16 4) 22 4

@@ -1,14 +1,15 @@
-// The public calls for other languages: built by `rt staticlib exported` and declared in include/esquirmell.h. Each hands its arguments on
-// to the call of the same name in engine, inner or filterbody, and has its promise. A slice is a pointer and then a count.
-ghost use mathlib.Core.Path.{_≡_};
-ghost use Rattle.rules.specs.Promise.{RunPromise};
-ghost use Rattle.pass.specs.Passing.{lentOf};
-ghost use Rattle.engine.specs.Engine.{totalGiven, PassPromise};
-ghost use Rattle.inner.specs.Inner.{answerQuestion, given};
-ghost use Rattle.filterbody.specs.Found.{partOf};
-use engine::Total;
-use filterbody::Part;
-use inner::Answered;
+// The public calls for other languages: built by `rt staticlib exported` and declared in include/esquirmell.h. Each
+// hands its arguments on to a call of day_run, memory_question or book_filter_body, and has its promise. A slice is a
+// pointer and then a count.
+ghost use Rattle.lists.specs.Lending.{was};
+ghost use Rattle.rules.specs.Calls.{totals};
+ghost use Rattle.rules.specs.Promise.{lent, RunPromise, PassPromise, QuestionPromise, PartPromise};
+ghost use Rattle.day_run.specs.Calls.{returned};
+ghost use Rattle.memory_question.specs.Question.{questionLent, questionReturned};
+ghost use Rattle.book_filter_body.specs.Found.{partIn};
+use book_filter_body::Part;
+use day_run::Total;
+use memory_question::Answered;
 
 #[no_mangle]
 pub extern "C" fn esquirmell_run(
@@ -18,9 +19,9 @@ pub extern "C" fn esquirmell_run(
     answers: &mut [u64],
     workspace: &mut [u64],
 ) -> Total
-    ensures { λ r. ⌜ RunPromise (lentOf (now (book .entry)) (now (day .entry)) (now (memory .entry)) (now (answers .entry)) (now (workspace .entry))) (totalGiven r (now (memory .exit)) (now (answers .exit)) (now (workspace .exit))) ⌝ }
+    ensures { λ r. ⌜ RunPromise (lent book day memory answers workspace) (returned r memory answers workspace) ⌝ }
 {
-    engine::run(book, day, memory, answers, workspace)
+    day_run::run(book, day, memory, answers, workspace)
 }
 
 #[no_mangle]
@@ -34,9 +35,12 @@ pub extern "C" fn esquirmell_pass(
     anew: u64,
     filled: usize,
 ) -> Total
-    ensures { λ r. ⌜ PassPromise (lentOf (now (book .entry)) (now (day .entry)) (now (memory .entry)) (now (answers .entry)) (now (workspace .entry))) (record { asked = asked; anew = anew; filled = filled }) (totalGiven r (now (memory .exit)) (now (answers .exit)) (now (workspace .exit))) ⌝ }
+    ensures { λ r. ⌜
+        PassPromise (lent book day memory answers workspace) (totals asked anew filled)
+        (returned r memory answers workspace)
+        ⌝ }
 {
-    engine::pass_from(book, day, memory, answers, workspace, asked, anew, filled)
+    day_run::pass_from(book, day, memory, answers, workspace, asked, anew, filled)
 }
 
 #[no_mangle]
@@ -48,14 +52,16 @@ pub extern "C" fn esquirmell_ask(
     question: &[u64],
     answer: &mut [u64],
 ) -> Answered
-    ensures { λ r. ⌜ given r (now (memory .exit)) (now (answer .exit)) ≡ answerQuestion (now (book .entry)) (now (question .entry)) (now (answer .entry)) (record { memory = now (memory .entry); anew = anew; filled = filled }) ⌝ }
+    ensures { λ r. ⌜
+        QuestionPromise (questionLent book memory filled anew question answer) (questionReturned r memory answer)
+        ⌝ }
 {
-    inner::answer_question(book, memory, filled, anew, question, answer)
+    memory_question::answer_question(book, memory, filled, anew, question, answer)
 }
 
 #[no_mangle]
 pub extern "C" fn esquirmell_filter_body(book: &[u8], id: u32) -> Part
-    ensures { λ r. ⌜ r ≡ partOf (now (book .entry)) id ⌝ }
+    ensures { λ r. ⌜ PartPromise (was book) id (partIn r) ⌝ }
 {
-    filterbody::part_of(book, id)
+    book_filter_body::part_of(book, id)
 }

@@ -1,0 +1,2 @@
+-- What an accepted book gives.
+pub mod BookAccepted

@@ -1,7 +1,0 @@
-use borrow.Author.Needs.{needs}
-use Rattle.bookcheck.specs.Steps.{falls-is}
-use Rattle.bookcheck.proofs.falls_at.Statement.{statement}
-use Rattle.bookcheck.proofs.falls_at.Tie as tie
-
-pub falls-at-spec : {M : Type 1} → statement M
-falls-at-spec = tie.close (tie.spec (λ c κs. search needs) (λ c. search needs) (λ c κs. search needs) (λ c. search (falls-is, needs)))

@@ -1,2 +1,0 @@
--- What an accepted book gives.
-pub mod Accepted

@@ -1,0 +1,3 @@
+-- What an accepted day file gives, and a law for each way out of the checks.
+pub mod DayAccepted
+pub mod Steps

@@ -1,0 +1,45 @@
+use Rattle.day_pass.specs.Passing.{Passing, passing-none, passing-there, passing-room, passing-levels, passing-asked, passing-anew, passing-more, passing-all, day-two}
+use borrow.Author.Needs.{needs}
+use Prim.Native.Nat.{_-_}
+use Rattle.day_pass.proofs.all.Statement.{statement}
+use Rattle.day_pass.proofs.all.Tie as tie
+use Rattle.day_pass.proofs.all.Reads as reads
+use Rattle.day_pass.proofs.all.Lts as lts
+use Rattle.day_check.proofs.message_count.Reads as message-count-reads
+use Rattle.day_pass.proofs.one.Reads as one-reads
+
+abbrev Inv-loop : tie.InvT-loop
+Inv-loop book day plan n table₀ memory₀ answers₀ ws₀ count c₀ k₀ table memory answers ws c k = Passing book day table₀ memory₀ answers₀ ws₀ c₀ count table memory answers ws c k
+
+abbrev μ-loop : tie.MeasureT-loop
+μ-loop book day plan n table₀ memory₀ answers₀ ws₀ count c₀ k₀ table memory answers ws c k = count - k
+
+pub all-spec : {M : Type 1} → statement M
+all-spec =
+    tie.close
+    (tie.spec
+    Inv-loop
+    μ-loop
+    (λ c κs. search (day-two, needs))
+    (λ c. search (passing-none, needs))
+    (λ c κs. (
+      record {
+        reads = search needs;
+        laid = search needs;
+        within = search (passing-there, needs);
+        planned = search needs;
+        indexed = search needs;
+        levels = search (passing-levels, needs);
+        asked-rises = search (passing-asked, needs);
+        anew-rises = search (passing-anew, needs);
+      },
+      search (passing-room, needs),
+    ))
+    (λ c. search needs)
+    (λ c. search needs)
+    (λ c. search (passing-more, needs))
+    (λ c. search needs)
+    (λ c. search needs)
+    (λ c. search needs)
+    (λ c. search needs)
+    (λ c. (search (passing-all, needs), search needs)))

@@ -1,0 +1,20 @@
+use Rattle.day_pass.specs.Passing.{pass-is}
+use borrow.Author.Needs.{needs}
+use Rattle.day_pass.proofs.pass.Statement.{statement}
+use Rattle.day_pass.proofs.pass.Tie as tie
+use Rattle.day_pass.proofs.pass.Reads as reads
+use Rattle.day_pass.proofs.pass.Lts as lts
+use Rattle.day_pass.proofs.all.Reads as all-reads
+use Rattle.day_pass.proofs.clear_levels.Reads as clear-levels-reads
+
+pub pass-spec : {M : Type 1} → statement M
+pass-spec =
+    tie.close
+    (tie.spec
+    (λ c κs. search needs)
+    (λ c κs. search needs)
+    (λ c. search needs)
+    (λ c. search needs)
+    (λ c. search needs)
+    (λ c. search needs)
+    (λ c. search (pass-is, needs)))

@@ -1,0 +1,18 @@
+use borrow.Author.Needs.{needs}
+use Prim.Native.Nat.{_≤_, _-_}
+use Rattle.day_program.proofs.put_rows.Statement.{statement}
+use Rattle.day_program.proofs.put_rows.Tie as tie
+use Rattle.day_program.proofs.put_rows.Reads as reads
+use Rattle.day_program.proofs.put_rows.Lts as lts
+use Rattle.day_program.proofs.put_row.Reads as put-row-reads
+
+abbrev Inv-loop : tie.InvT-loop
+Inv-loop book answers count k₀ k = k ≤ count
+
+abbrev μ-loop : tie.MeasureT-loop
+μ-loop book answers count k₀ k = count - k
+
+pub put-rows-spec : {M : Type 1} → statement M
+put-rows-spec =
+    tie.close
+    (tie.spec Inv-loop μ-loop (λ c. search needs) (λ c κs. search needs) (λ c. search needs) (λ c. search needs) (λ c. search needs) (λ c. search needs))

@@ -1,0 +1,173 @@
+-- A law for each way through the engine's calls.
+use mathlib.Core.Path.{_≡_, refl, sym, ap, _∙_}
+use mathlib.Core.Bool.{Bool, true, false, _||_}
+use mathlib.Core.List.{List, [], _∷_, _++_}
+use Prim.Native.Nat.{ℕ, zero, suc, _+_, _*_, _<_, _≤_}
+use native.Mathlib.Omega.{arith}
+use lib.Dec.{eqb, ltb, leb}
+use lib.ListN.{length}
+use borrow.Author.Tests.{eq-eqb, ne-eqb, eqb-true, lt-ltb, le-ltb, ltb-false, leb-false}
+use Rattle.lists.specs.Choice.{pick}
+use Rattle.lists.specs.Checks.{Check, firstOf}
+use Rattle.lists.specs.Choice.Laws.{pick-true, pick-false, neither}
+use Rattle.lists.specs.Checks.Laws.{first-fails, first-passes, first-end, first-zero, first-join, Numbered}
+use Rattle.rules.specs.Book.{bookChecks, bookRefusal}
+use Rattle.rules.specs.DayFile.{messageCount, dayChecks, dayRefusal}
+use Rattle.rules.specs.Memory.{slotsLent}
+use Rattle.rules.specs.Memory.Laws.{lent-fits}
+use Rattle.rules.specs.Run.{Lent, Returned, lentChecks, runChecks, runRefusal, refusedRun, passDay, atFirst, run}
+use Rattle.rules.specs.Run.Laws.{numbered, run-refused, run-accepted}
+use Rattle.rules.specs.Calls.{totals, totalChecks, passRefusal, passFrom}
+use Rattle.rules.specs.Calls as rules
+use Rattle.book_planner.specs.Make.{Made}
+use Rattle.book_plan.specs.Plan.{PlanOf}
+use Rattle.day_pass.specs.declared.Totals.{Totals}
+use Rattle.day_pass.specs.Passing.{carriedOf, lentOf, passReturned, day-two}
+use Rattle.day_run.specs.declared.Total.{Total}
+use Rattle.day_run.specs.Calls.{totalReturned, RunAccepted}
+
+module _ (l : Lent) where
+  joined : runRefusal l ≡ pick (eqb (bookRefusal (l .book)) 0) (pick (eqb (dayRefusal (l .day)) 0) (firstOf (lentChecks l)) (dayRefusal (l .day))) (bookRefusal (l .book))
+  unfolding runRefusal bookRefusal dayRefusal
+  joined =
+      first-join 1 (bookChecks (l .book)) (dayChecks (l .day) ++ lentChecks l) (refl, (refl, (refl, (refl, (refl, (refl, (refl, tt))))))) (omega arith)
+      ∙ ap (λ (n : ℕ). pick (eqb (firstOf (bookChecks (l .book))) 0) n (firstOf (bookChecks (l .book))))
+      (first-join 8 (dayChecks (l .day)) (lentChecks l) (refl, (refl, (refl, tt))) (omega arith))
+
+  total-joined : (c : rules.Totals) → passRefusal l c ≡ pick (eqb (runRefusal l) 0) (firstOf (totalChecks l c)) (runRefusal l)
+  unfolding passRefusal runRefusal
+  total-joined c = first-join 1 (runChecks l) (totalChecks l c) (numbered l) (omega arith)
+
+  -- ── the refusals ──
+  module _ (b : ℕ) (checked : b ≡ bookRefusal (l .book)) where
+    pub refused-book : (b ≡ 0 → ⊥) → b ≡ runRefusal l
+    refused-book h = checked ∙ sym (joined ∙ pick-false _ _ _ (ne-eqb _ _ (λ e. h (checked ∙ e))))
+
+    module _ (fine : b ≡ 0) (d : ℕ) (looked : d ≡ dayRefusal (l .day)) where
+      later : runRefusal l ≡ pick (eqb (dayRefusal (l .day)) 0) (firstOf (lentChecks l)) (dayRefusal (l .day))
+      later = joined ∙ pick-true _ _ _ (eq-eqb _ _ (sym checked ∙ fine))
+
+      pub refused-day : (d ≡ 0 → ⊥) → d ≡ runRefusal l
+      refused-day h = looked ∙ sym (later ∙ pick-false _ _ _ (ne-eqb _ _ (λ e. h (looked ∙ e))))
+
+      module _ (whole : d ≡ 0) (n : ℕ) (count : n ≡ messageCount (l .day)) where
+        last : runRefusal l ≡ firstOf (lentChecks l)
+        last = later ∙ pick-true _ _ _ (eq-eqb _ _ (sym looked ∙ whole))
+
+        pub refused-answers : length (l .answers) < 3 * n → 11 ≡ runRefusal l
+        refused-answers h = sym (last ∙ first-fails 11 _ _ (lt-ltb _ _ (rw count at h)))
+
+        pub refused-levels : 3 * n ≤ length (l .answers) → length (l .workspace) < 650 → 12 ≡ runRefusal l
+        refused-levels h k = sym (last ∙ first-passes 11 _ _ (le-ltb _ _ (rw count at h)) ∙ first-fails 12 _ _ (lt-ltb _ _ k))
+
+        pub refused-none : 3 * n ≤ length (l .answers) → 650 ≤ length (l .workspace) → 0 ≡ runRefusal l
+        refused-none h k = sym (last ∙ first-passes 11 _ _ (le-ltb _ _ (rw count at h)) ∙ first-passes 12 _ _ (le-ltb _ _ k) ∙ first-end)
+
+  -- ── what is not refused ──
+  book-passes : runRefusal l ≡ 0 → bookRefusal (l .book) ≡ 0
+  book-passes e = go (bookRefusal (l .book)) refl
+    where
+      go : (n : ℕ) → bookRefusal (l .book) ≡ n → bookRefusal (l .book) ≡ 0
+      go zero d = d
+      go (suc n) d = absurd (let z : runRefusal l ≡ bookRefusal (l .book) = sym (refused-book (bookRefusal (l .book)) refl (λ k. omega arith)) in omega arith)
+
+  day-passes : runRefusal l ≡ 0 → dayRefusal (l .day) ≡ 0
+  day-passes e = go (dayRefusal (l .day)) refl
+    where
+      go : (n : ℕ) → dayRefusal (l .day) ≡ n → dayRefusal (l .day) ≡ 0
+      go zero d = d
+      go (suc n) d = absurd (let z : runRefusal l ≡ dayRefusal (l .day) = sym (refused-day (bookRefusal (l .book)) refl (book-passes e) (dayRefusal (l .day)) refl (λ k. omega arith)) in omega arith)
+
+  lent-pass : runRefusal l ≡ 0 → (3 * messageCount (l .day) ≤ length (l .answers)) × (650 ≤ length (l .workspace))
+  lent-pass e =
+      let f : firstOf (lentChecks l) ≡ 0 = sym (last (bookRefusal (l .book)) refl (book-passes e) (dayRefusal (l .day)) refl (day-passes e) (messageCount (l .day)) refl) ∙ e in
+      let one = first-zero 11 _ _ (omega arith) f in
+      let two = first-zero 12 _ _ (omega arith) (one .1) in
+      (ltb-false _ _ (one .0), ltb-false _ _ (two .0))
+
+module _ (book day memory answers ws : List ℕ) where
+  accepted-with : (c : Totals) → runRefusal (lentOf book day memory answers ws) ≡ 0 → c .filled ≤ slotsLent memory → c .asked < 9223372036854775808 → c .anew < 9223372036854775808 →
+      RunAccepted book day memory answers ws c
+  unfolding slotsLent
+  accepted-with c e f g h =
+      let l : Lent = lentOf book day memory answers ws in
+      record {
+        reads = book-passes l e;
+        laid = day-passes l e;
+        room = lent-pass l e .0;
+        levels = lent-pass l e .1;
+        few = omega arith;
+        fits = omega (arith, lent-fits memory);
+        asked = g;
+        anew = h;
+      }
+
+  -- ── the run ──
+  module _ (n : ℕ) (told : n ≡ runRefusal (lentOf book day memory answers ws)) where
+    pub run-accepts : n ≡ 0 → RunAccepted book day memory answers ws (record { asked = 0; anew = 0; filled = 0 })
+    run-accepts z = accepted-with (record { asked = 0; anew = 0; filled = 0 }) (sym told ∙ z) (omega arith) (omega arith) (omega arith)
+
+    pub run-refuses : (n ≡ 0 → ⊥) → totalReturned (record { refusal = n; asked = 0; anew = 0; filled = 0 }) memory answers ws ≡ run (lentOf book day memory answers ws)
+    run-refuses h = go n told h
+      where
+        go : (k : ℕ) → k ≡ runRefusal (lentOf book day memory answers ws) → (k ≡ 0 → ⊥) →
+            totalReturned (record { refusal = k; asked = 0; anew = 0; filled = 0 }) memory answers ws ≡ run (lentOf book day memory answers ws)
+        go zero e f = absurd (f refl)
+        go (suc k) e f = sym (run-refused (lentOf book day memory answers ws) k (sym e))
+
+    pub run-passes : (c : Totals) (m a w : List ℕ) → n ≡ 0 →
+        passReturned c m a w ≡ passDay (lentOf book day memory answers ws) (carriedOf (record { asked = 0; anew = 0; filled = 0 }) memory) →
+        totalReturned (record { refusal = 0; asked = c .asked; anew = c .anew; filled = c .filled }) m a w ≡ run (lentOf book day memory answers ws)
+    run-passes c m a w z e = e ∙ sym (run-accepted (lentOf book day memory answers ws) (sym told ∙ z))
+
+  -- ── the pass from filled slots ──
+  module _ (asked anew filled : ℕ) where
+    abbrev lent : Lent
+    lent = lentOf book day memory answers ws
+
+    abbrev from : rules.Totals
+    from = totals asked anew filled
+
+    abbrev counts : Totals
+    counts = record { asked = asked; anew = anew; filled = filled }
+
+    module _ (n : ℕ) (told : n ≡ runRefusal lent) where
+      pub from-run : (n ≡ 0 → ⊥) → n ≡ passRefusal lent from
+      from-run h = told ∙ sym (total-joined lent from ∙ pick-false _ _ _ (ne-eqb _ _ (λ e. h (told ∙ e))))
+
+      module _ (z : n ≡ 0) (s : ℕ) (slots : s ≡ slotsLent memory) where
+        after : passRefusal lent from ≡ firstOf (totalChecks lent from)
+        after = total-joined lent from ∙ pick-true _ _ _ (eq-eqb _ _ (sym told ∙ z))
+
+        pub from-counts : ltb s filled || (leb 9223372036854775808 asked || leb 9223372036854775808 anew) ≡ true → 19 ≡ passRefusal lent from
+        from-counts t = sym (after ∙ first-fails 19 _ _ (rw slots at t))
+
+        pub from-none : ltb s filled || (leb 9223372036854775808 asked || leb 9223372036854775808 anew) ≡ false → 0 ≡ passRefusal lent from
+        from-none t = sym (after ∙ first-passes 19 _ _ (rw slots at t) ∙ first-end)
+
+    module _ (n : ℕ) (told : n ≡ passRefusal lent from) where
+      run-passed : n ≡ 0 → runRefusal lent ≡ 0
+      run-passed z = go (runRefusal lent) refl
+        where
+          go : (k : ℕ) → runRefusal lent ≡ k → runRefusal lent ≡ 0
+          go zero d = d
+          go (suc k) d = absurd (let y : runRefusal lent ≡ passRefusal lent from = from-run (runRefusal lent) refl (λ e. omega arith) in omega arith)
+
+      pub from-accepts : n ≡ 0 → RunAccepted book day memory answers ws counts
+      from-accepts z =
+          let one = first-zero 19 _ _ (omega arith) (sym (after (runRefusal lent) refl (run-passed z) (slotsLent memory) refl) ∙ sym told ∙ z) in
+          let over = neither _ _ (one .0) in
+          let many = neither _ _ (over .1) in
+          accepted-with counts (run-passed z) (ltb-false _ _ (over .0)) (leb-false _ _ (many .0)) (leb-false _ _ (many .1))
+
+      pub from-refuses : (n ≡ 0 → ⊥) → totalReturned (record { refusal = n; asked = 0; anew = 0; filled = 0 }) memory answers ws ≡ passFrom lent from
+      unfolding passFrom
+      from-refuses h = ap (refusedRun lent) told ∙ sym (pick-false _ _ _ (ne-eqb _ _ (λ e. h (told ∙ e))))
+
+      pub from-passes : (r : Totals) (m a w : List ℕ) → n ≡ 0 → passReturned r m a w ≡ passDay lent (carriedOf counts memory) →
+          totalReturned (record { refusal = 0; asked = r .asked; anew = r .anew; filled = r .filled }) m a w ≡ passFrom lent from
+      unfolding passFrom
+      from-passes r m a w z e = e ∙ sym (pick-true _ _ _ (eq-eqb _ _ (sym told ∙ z)))
+
+pub two-bytes : (d : List ℕ) (n : ℕ) → n ≡ dayRefusal d → n ≡ 0 → 2 ≤ length d
+two-bytes d n e z = day-two d (sym e ∙ z)

@@ -1,7 +1,0 @@
-use borrow.Author.Needs.{needs}
-use Rattle.daycheck.specs.Steps.{off-bare, off-is}
-use Rattle.daycheck.proofs.off.Statement.{statement}
-use Rattle.daycheck.proofs.off.Tie as tie
-
-pub off-spec : {M : Type 1} → statement M
-off-spec = tie.close (tie.spec (λ c. search (off-bare, needs)) (λ c κs. search needs) (λ c. search needs) (λ c. search needs) (λ c. search (off-is, needs)))

@@ -1,3 +1,0 @@
--- What an accepted day file gives, and a law for each way out of the checks.
-pub mod Accepted
-pub mod Steps

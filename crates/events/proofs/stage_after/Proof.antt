@@ -1,9 +1,0 @@
-use Rattle.events.specs.Laws.{stage-attribute, stage-element}
-use borrow.Author.Needs.{needs}
-use Rattle.events.proofs.stage_after.Statement.{statement}
-use Rattle.events.proofs.stage_after.Tie as tie
-use Rattle.events.proofs.stage_after.Reads as reads
-use Rattle.events.proofs.stage_after.Lts as lts
-
-pub stage-after-spec : {M : Type 1} → statement M
-stage-after-spec = tie.close (tie.spec (λ c. search (stage-attribute, stage-element, needs)) (λ c. search (stage-attribute, stage-element, needs)))

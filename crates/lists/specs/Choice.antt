@@ -1,0 +1,7 @@
+-- A choice between two values by a test.
+use mathlib.Core.Bool.{Bool, true, false}
+pub mod Laws
+
+unfoldable pub pick : {A : Type 0} → Bool → A → A → A
+pick true a b = a
+pick false a b = b

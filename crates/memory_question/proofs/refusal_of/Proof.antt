@@ -1,0 +1,15 @@
+use Rattle.memory_question.specs.Laws.{refused-book, refused-question, refused-counts, accepts}
+use borrow.Author.Needs.{needs}
+use Rattle.memory_question.proofs.refusal_of.Statement.{statement}
+use Rattle.memory_question.proofs.refusal_of.Tie as tie
+
+pub refusal-of-spec : {M : Type 1} → statement M
+refusal-of-spec =
+    tie.close
+    (tie.spec
+    (λ c κs. search needs)  -- check-book-requires
+    (λ c. search (refused-book, needs))  -- returns
+    (λ c. search (refused-question, needs))  -- returns-2
+    (λ c κs. search needs)  -- lent-requires
+    (λ c. search (refused-counts, needs))  -- returns-3
+    (λ c. search (accepts, needs)))  -- returns-4

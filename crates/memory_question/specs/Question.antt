@@ -1,0 +1,34 @@
+-- What is lent to the inner call and what it gives, as its promise has it, and what a question that is not refused has.
+use mathlib.Core.Path.{_≡_}
+use mathlib.Core.List.{List}
+use Prim.Native.Nat.{ℕ, _*_, _<_, _≤_}
+use lib.ListN.{length}
+use denote.Ref.{RefT}
+use denote.Triple.Both.{Both}
+use Rattle.lists.specs.Lending.{was, left}
+use Rattle.rules.specs.Book.{bookRefusal}
+use Rattle.rules.specs.Memory.{Kept}
+use Rattle.rules.specs.Calls.{QuestionLent, QuestionReturned}
+use Rattle.memory_question.specs.declared.Answered.{Answered}
+
+-- of the slices of a call: what each held when the call began
+abbrev pub questionLent : {A B C D : Type 0} →
+    Both (RefT (List ℕ)) A → Both (RefT (List ℕ)) B → ℕ → ℕ → Both (RefT (List ℕ)) C → Both (RefT (List ℕ)) D → QuestionLent
+questionLent book memory filled anew q answer =
+    record { book = was book; question = was q; room = was answer; kept = record { memory = was memory; anew = anew; filled = filled } }
+
+abbrev pub answeredWith : Answered → List ℕ → List ℕ → QuestionReturned
+answeredWith r m a = record { refusal = r .refusal; reply = record { answer = a; kept = record { memory = m; anew = r .anew; filled = r .filled } } }
+
+-- its result, and what the memory and the answer hold when it ends
+abbrev pub questionReturned : {A B : Type 0} → Answered → Both A (RefT (List ℕ)) → Both B (RefT (List ℕ)) → QuestionReturned
+questionReturned r memory answer = answeredWith r (left memory) (left answer)
+
+-- what an accepted question has
+pub record Answerable (l : QuestionLent) : Type 0 where
+  pub accepted : bookRefusal (l .book) ≡ 0
+  pub nine : length (l .question) ≡ 9
+  pub eight : length (l .room) ≡ 8
+  pub few : l .kept .filled ≤ 4096
+  pub fits : 17 * l .kept .filled ≤ length (l .kept .memory)
+  pub rises : l .kept .anew < 9223372036854775808

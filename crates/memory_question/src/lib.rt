@@ -1,0 +1,85 @@
+// The inner call as a public call: any book, memory and counts are taken, and what cannot be answered is refused by a
+// number.
+// It makes the plan of the book and the index of the filled slots, and calls the very function that the run calls,
+// `memory_ask::ask`.
+// Its promise: rules/specs/Promise.antt, QuestionPromise; its definition: Calls.antt there.
+ghost use mathlib.Core.Path.{_≡_};
+ghost use Rattle.lists.specs.Lending.{was, left};
+ghost use Rattle.rules.specs.Book.{statesOf};
+ghost use Rattle.rules.specs.Memory.{questionIn, ask};
+ghost use Rattle.memory_ask.specs.Ask.{keptIn, kept, replied};
+ghost use Rattle.rules.specs.Calls.{questionRefusal};
+ghost use Rattle.rules.specs.Promise.{QuestionPromise};
+ghost use Rattle.memory_question.specs.Question.{questionLent, questionReturned, Answerable};
+use memory_ask::Counts;
+
+// The refusal, and the counts for the next question; zero counts where the question is refused.
+#[repr(C)]
+pub struct Answered {
+    pub refusal: u64,
+    pub anew: u64,
+    pub filled: usize,
+}
+
+fn refusal_of(book: &[u8], memory: &[u64], c: Counts, q: &[u64], answer: &[u64]) -> u64
+    ensures { λ r. ⌜ r ≡ questionRefusal (questionLent book memory (c .filled) (c .anew) q answer) ⌝ }
+{
+    let no = book_check::check_book(book);
+    if no != 0 {
+        return no;
+    }
+    if (q.len() != 9) | (answer.len() != 8) {
+        return 18;
+    }
+    if (memory_slots::lent(memory) < c.filled) | (9223372036854775808 <= c.anew) {
+        return 19;
+    }
+    0
+}
+
+// A question to an accepted book.
+fn ask_alone(book: &[u8], memory: &mut [u64], c: Counts, q: &[u64], answer: &mut [u64]) -> Counts
+    requires { ⌜
+        Answerable (record { book = now book; question = now q; room = now answer; kept = keptIn (now memory) c })
+        ⌝ }
+    ensures { λ r. ⌜ replied answer memory r ≡ ask (statesOf (was book)) (questionIn (was q)) (kept memory c) ⌝ }
+{
+    let mut plan = [0u64; 1536];
+    let n = book_planner::make(book, &mut plan);
+    let mut table = [0u16; 12288];
+    let filled = c.filled;
+    memory_index::index_all(&mut table, memory, filled);
+    memory_ask::ask(&plan, n, &mut table, memory, c, q, answer)
+}
+
+pub fn answer_question(
+    book: &[u8],
+    memory: &mut [u64],
+    filled: usize,
+    anew: u64,
+    q: &[u64],
+    answer: &mut [u64],
+) -> Answered
+    ensures { λ r. ⌜
+        QuestionPromise (questionLent book memory filled anew q answer) (questionReturned r memory answer)
+        ⌝ }
+{
+    let c = Counts {
+        anew: anew,
+        filled: filled,
+    };
+    let no = refusal_of(book, memory, c, q, answer);
+    if no != 0 {
+        return Answered {
+            refusal: no,
+            anew: 0,
+            filled: 0,
+        };
+    }
+    let next = ask_alone(book, memory, c, q, answer);
+    Answered {
+        refusal: 0,
+        anew: next.anew,
+        filled: next.filled,
+    }
+}

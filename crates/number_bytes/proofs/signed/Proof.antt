@@ -1,0 +1,26 @@
+use borrow.Author.Needs.{needs}
+use borrow.Author.Tests.{lt-ltb, le-ltb}
+use native.Mathlib.Omega.{arith}
+use mathlib.Core.Path.{_≡_, ap}
+use Prim.Native.Nat.{_-_}
+use lib.IntN.{negsuc}
+use Rattle.lists.specs.Choice.{pick}
+use Rattle.rules.specs.Bytes.{signed4}
+use Rattle.number_bytes.proofs.signed.Statement.{statement}
+use Rattle.number_bytes.proofs.signed.Tie as tie
+use Rattle.number_bytes.proofs.signed.Reads as reads
+use Rattle.number_bytes.proofs.signed.Lts as lts
+
+returns : tie.Need-returns
+unfolding signed4 pick
+returns c = simp (lt-ltb _ _ (c .if1 .taken))
+
+returns-2 : tie.Need-returns-2
+unfolding signed4 pick
+returns-2 c =
+    let u = c .before .args .u in
+    let e : 4294967295 - (4294967295 - u) ≡ u = omega arith in
+    rw e (simp (le-ltb _ _ (c .if1 .left)) (ap negsuc (omega arith)))
+
+pub signed-spec : {M : Type 1} → statement M
+signed-spec = tie.close (tie.spec (λ c. search needs) (λ c. search needs) (λ c. search needs) returns returns-2)

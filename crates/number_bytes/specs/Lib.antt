@@ -1,0 +1,1 @@
+-- The contracts cite rules/specs/Bytes.antt; the crate has no definition of its own.

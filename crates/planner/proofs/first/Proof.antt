@@ -1,7 +1,0 @@
-use borrow.Author.Needs.{needs}
-use Rattle.planner.specs.Row.{field-laws}
-use Rattle.planner.proofs.first.Statement.{statement}
-use Rattle.planner.proofs.first.Tie as tie
-
-pub first-spec : {M : Type 1} → statement M
-first-spec = tie.close (tie.spec (λ c. search needs) (λ c. search (field-laws, needs)) (λ c. search (field-laws, needs)) (λ c. search (field-laws, needs)))

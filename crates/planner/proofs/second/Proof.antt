@@ -1,7 +1,0 @@
-use borrow.Author.Needs.{needs}
-use Rattle.planner.specs.Row.{field-laws}
-use Rattle.planner.proofs.second.Statement.{statement}
-use Rattle.planner.proofs.second.Tie as tie
-
-pub second-spec : {M : Type 1} → statement M
-second-spec = tie.close (tie.spec (λ c. search needs) (λ c. search (field-laws, needs)) (λ c. search (field-laws, needs)))

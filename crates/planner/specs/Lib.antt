@@ -1,5 +1,0 @@
--- A state's three numbers, where its successors lead, and the loops that make a plan.
-pub mod Row
-pub mod Leads
-pub mod Lists
-pub mod Make

@@ -1,9 +1,0 @@
-use Rattle.reading.specs.Reads.{finish-laws}
-use borrow.Author.Needs.{needs}
-use Rattle.reading.proofs.finish.Statement.{statement}
-use Rattle.reading.proofs.finish.Tie as tie
-use Rattle.reading.proofs.finish.Reads as reads
-use Rattle.reading.proofs.finish.Lts as lts
-
-pub finish-spec : {M : Type 1} → statement M
-finish-spec = tie.close (tie.spec (λ c. search needs) (λ c. search needs) (λ c. search needs) (λ c. search needs) (λ c. search (finish-laws, needs)) (λ c. search (finish-laws, needs)))

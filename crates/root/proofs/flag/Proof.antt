@@ -1,9 +1,0 @@
-use Rattle.root.specs.Filters.{flag-laws}
-use borrow.Author.Needs.{needs}
-use Rattle.root.proofs.flag.Statement.{statement}
-use Rattle.root.proofs.flag.Tie as tie
-use Rattle.root.proofs.flag.Reads as reads
-use Rattle.root.proofs.flag.Lts as lts
-
-pub flag-spec : {M : Type 1} → statement M
-flag-spec = tie.close (tie.spec (λ c. search needs) (λ c. search (flag-laws, needs)) (λ c. search (flag-laws, needs)))

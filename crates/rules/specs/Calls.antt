@@ -1,0 +1,69 @@
+-- The two calls beside the run that ask questions: the pass from any filled slots, and the inner call with no run
+-- around it. Section "Questions and the memory". Both take any arguments; refusals 18 and 19 are theirs, and the
+-- paper gives them no number (docs/DECISIONS.md).
+use mathlib.Core.Bool.{_||_, not}
+use mathlib.Core.List.{List, [], _∷_, _++_}
+use Prim.Native.Nat.{ℕ}
+use lib.Dec.{eqb, ltb, leb}
+use lib.ListN.{length}
+use Rattle.lists.specs.Choice.{pick}
+use Rattle.lists.specs.Checks.{Check, firstOf}
+use Rattle.rules.specs.Book.{bookChecks, statesOf}
+use Rattle.rules.specs.Memory.{questionIn, slotsLent, Kept, Reply, ask}
+use Rattle.rules.specs.Pass.{Carried}
+use Rattle.rules.specs.Run.{Lent, Returned, runChecks, refusedRun, passDay}
+
+-- ── "the pass over the messages promises this from any filled slots, wrong answers and all" ──
+-- the counts that it starts from: asked, worked out anew, filled
+pub record Totals : Type 0 where
+  pub asked : ℕ
+  pub anew : ℕ
+  pub filled : ℕ
+
+abbrev pub totals : ℕ → ℕ → ℕ → Totals
+totals asked anew filled = record { asked = asked; anew = anew; filled = filled }
+
+abbrev pub carriedFrom : Totals → List ℕ → Carried
+carriedFrom c memory = record { asked = c .asked; kept = record { memory = memory; anew = c .anew; filled = c .filled } }
+
+-- 19, after the run's refusals: more slots filled than lent, or a count of 2^63 or more, which a day file might raise
+-- past 64 bits
+abbrev pub totalChecks : Lent → Totals → List Check
+totalChecks l c =
+    record { number = 19; fails = ltb (slotsLent (l .memory)) (c .filled) || (leb 9223372036854775808 (c .asked) || leb 9223372036854775808 (c .anew)) } ∷ []
+
+unfoldable pub passRefusal : Lent → Totals → ℕ
+passRefusal l c = firstOf (runChecks l ++ totalChecks l c)
+
+unfoldable pub passFrom : Lent → Totals → Returned
+passFrom l c = pick (eqb (passRefusal l c) 0) (passDay l (carriedFrom c (l .memory))) (refusedRun l (passRefusal l c))
+
+-- ── "one inner call answers a question" ──
+-- what is lent to it: a book, a question's nine numbers, room for the answer, the memory and its counts
+pub record QuestionLent : Type 0 where
+  pub book : List ℕ
+  pub question : List ℕ
+  pub room : List ℕ
+  pub kept : Kept
+
+-- what it gives back: its refusal, the answer, and the memory and its counts
+pub record QuestionReturned : Type 0 where
+  pub refusal : ℕ
+  pub reply : Reply
+
+-- after the book's refusals 1 to 7
+abbrev pub questionChecks : QuestionLent → List Check
+questionChecks l =
+    -- the question is not nine numbers, or the room for the answer not eight
+    record { number = 18; fails = not (eqb (length (l .question)) 9) || not (eqb (length (l .room)) 8) } ∷
+    -- more slots filled than lent, or a count worked out anew of 2^63 or more, as in the pass from filled slots
+    record { number = 19; fails = ltb (slotsLent (l .kept .memory)) (l .kept .filled) || leb 9223372036854775808 (l .kept .anew) } ∷ []
+
+unfoldable pub questionRefusal : QuestionLent → ℕ
+questionRefusal l = firstOf (bookChecks (l .book) ++ questionChecks l)
+
+-- refused: the number and zero counts, and the room for the answer and the memory as they were
+unfoldable pub answerQuestion : QuestionLent → QuestionReturned
+answerQuestion l = pick (eqb (questionRefusal l) 0)
+    (record { refusal = 0; reply = ask (statesOf (l .book)) (questionIn (l .question)) (l .kept) })
+    (record { refusal = questionRefusal l; reply = record { answer = l .room; kept = record { memory = l .kept .memory; anew = 0; filled = 0 } } })

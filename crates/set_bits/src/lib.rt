@@ -1,0 +1,42 @@
+// Sets of states: eight 64-bit numbers, each function one equation to rules/specs/Sets.antt. Its `pub` is for sister
+// crates only.
+// State k is bit k mod 64 of number k div 64. Read next: set_work, which completes sets and works answers out.
+ghost use mathlib.Core.Path.{_≡_};
+ghost use Prim.Native.Nat.{_<_, _≤_};
+ghost use lib.ListN.{length};
+ghost use Rattle.lists.specs.Lending.{was, left};
+ghost use Rattle.rules.specs.Sets.{has as member, either};
+ghost use Rattle.rules.specs.Sets.Laws.{put as withBit};
+
+pub fn has(set: &[u64], k: usize) -> bool
+    requires { ⌜ (8 ≤ length (now set)) × (k < 512) ⌝ }
+    ensures { λ r. ⌜ r ≡ member (was set) k ⌝ }
+{
+    (set[k / 64] >> (k % 64)) % 2 == 1
+}
+
+// A bit is taken out by first putting it in: no branch on what it was.
+pub fn put(set: &mut [u64], k: usize, b: bool)
+    requires { ⌜ (8 ≤ length (now set)) × (k < 512) ⌝ }
+    ensures { λ _. ⌜ left set ≡ withBit (was set) k b ⌝ }
+{
+    let w = set[k / 64];
+    let m = 1 << (k % 64);
+    if b {
+        set[k / 64] = w | m;
+    } else {
+        set[k / 64] = (w | m) ^ m;
+    }
+}
+
+// Joins another set to a set.
+pub fn join(set: &mut [u64], other: &[u64])
+    requires { ⌜ (length (now set) ≡ 8) × (length (now other) ≡ 8) ⌝ }
+    ensures { λ _. ⌜ left set ≡ either (was set) (was other) ⌝ }
+{
+    let mut i = 0;
+    while i < 8 {
+        set[i] = set[i] | other[i];
+        i += 1;
+    }
+}

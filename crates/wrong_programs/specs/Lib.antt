@@ -1,0 +1,3 @@
+-- The wrong programs, and that no promise allows what they give.
+pub mod Runs
+pub mod Calls
