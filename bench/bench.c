@@ -56,8 +56,7 @@ static void compare_rows(void) {
         demand(same_total(total, other), "the second engine has other totals");
         demand(memcmp(rows, lent.answers, 8 * numbers) == 0, "the second engine has other rows");
     }
-    if (!xml_here())
-        return;
+    if (!xml_here()) return;
     xml_rows(&day, xml_filters);
     for (unsigned k = 0; k < day.messages; k++)
         demand(rows[ESQ_ROW_NUMBERS * k] == 0 && rows[ESQ_ROW_NUMBERS * k + 2] == xml_filters[k],
@@ -92,8 +91,7 @@ static void time_all(timing *t) {
         for (unsigned engine = 0; engine < ENGINES; engine++) {
             bool slow = engine == SECOND || engine == XPATH;
             bool xml = engine == PARSE || engine == XPATH;
-            if ((!slow || round < SLOW_ROUNDS) && (!xml || xml_here()))
-                time_one(t, engine, round);
+            if ((!slow || round < SLOW_ROUNDS) && (!xml || xml_here())) time_one(t, engine, round);
         }
 }
 
@@ -122,8 +120,7 @@ static spread ratio_of(const timing *t, unsigned engine) {
 }
 
 static void print_engine(const timing *t, unsigned engine, const char *name) {
-    if (t->rounds[engine] == 0)
-        return;
+    if (t->rounds[engine] == 0) return;
     spread ms = spread_of(t->took[engine], t->rounds[engine]), ratio = ratio_of(t, engine);
     printf("%7u %-28s %9.2f (%8.2f to %8.2f) %8.2f %9.3f (%7.3f to %7.3f) %2u", book.filters, name,
            1e3 * ms.middle, 1e3 * ms.least, 1e3 * ms.most, 1e9 * ms.middle / (double)day.length,
@@ -149,10 +146,14 @@ static void table(uint64_t seed) {
     static timing t;
     make_day(&day, ESQ_MOST_MESSAGES, seed);
     printf("Day: %u messages, %zu bytes (as XML %zu bytes), %llu questions. libxml2: %s.\n"
-           "Times are processor time: middle (least to most). The ratio is to the proved engine with 4,096 slots, round\n"
-           "by round. All lent areas are cleared before each time is taken, outside of it; day and book are warm.\n\n",
-           day.messages, day.length, day.xml_start[day.messages], (unsigned long long)read_events(&day), xml_version());
-    printf("%7s %-28s %9s %22s %8s %9s %20s %2s %8s %6s\n", "filters", "engine", "ms", "", "ns/byte", "ratio", "", "n", "anew", "filled");
+           "Times are processor time: middle (least to most). The ratio is to the proved engine "
+           "with 4,096 slots, round\n"
+           "by round. All lent areas are cleared before each time is taken, outside of it; day and "
+           "book are warm.\n\n",
+           day.messages, day.length, day.xml_start[day.messages],
+           (unsigned long long)read_events(&day), xml_version());
+    printf("%7s %-28s %9s %22s %8s %9s %20s %2s %8s %6s\n", "filters", "engine", "ms", "",
+           "ns/byte", "ratio", "", "n", "anew", "filled");
     for (unsigned s = 0; s < SIZES; s++) {
         make_book(&book, filter_counts[s], seed + 1);
         xml_compile(&book);
@@ -171,18 +172,18 @@ static void print_costs(const char *what) {
     double byte = 1e9 / (double)day.length;
     for (unsigned c = 0; c < 2; c++) {
         unsigned engine = c == 0 ? 1 : 3; /* 64 slots and 4,096 */
-        for (unsigned round = 0; round < ROUNDS; round++)
-            time_one(&t, engine, round);
+        for (unsigned round = 0; round < ROUNDS; round++) time_one(&t, engine, round);
         s[c] = spread_of(t.took[engine], ROUNDS);
     }
-    printf("%-12s %8u %8zu %8.2f (%7.2f to %7.2f) %8.2f (%7.2f to %7.2f)\n", what, day.messages, day.length,
-           byte * s[0].middle, byte * s[0].least, byte * s[0].most,
-           byte * s[1].middle, byte * s[1].least, byte * s[1].most);
+    printf("%-12s %8u %8zu %8.2f (%7.2f to %7.2f) %8.2f (%7.2f to %7.2f)\n", what, day.messages,
+           day.length, byte * s[0].middle, byte * s[0].least, byte * s[0].most, byte * s[1].middle,
+           byte * s[1].least, byte * s[1].most);
 }
 
 static void growth(uint64_t seed) {
     unsigned whole = day.messages;
-    printf("\nCost as the day grows, 64 filters, ns a byte of the day, middle (least to most):\n%-12s %8s %8s %28s %28s\n",
+    printf("\nCost as the day grows, 64 filters, ns a byte of the day, middle (least to "
+           "most):\n%-12s %8s %8s %28s %28s\n",
            "", "messages", "bytes", "64 slots", "4096 slots");
     make_day(&day, whole / 4, seed);
     print_costs("a quarter");
@@ -198,14 +199,16 @@ static void growth(uint64_t seed) {
     compare_rows();
     xml_drop();
     print_costs("one filter");
-    printf("No numbers: every text is made one that is no number. One filter: the same 512 states in one body.\n");
+    printf("No numbers: every text is made one that is no number. One filter: the same 512 states "
+           "in one body.\n");
 }
 
 int main(int count, char **word) {
     uint64_t seed = count > 1 ? strtoull(word[1], NULL, 10) : 1;
     table(seed);
     growth(seed);
-    printf("\nSlots compared with a question, 4,096 slots lent, over the whole day:\n%7s %9s %9s %7s %16s %16s\n",
+    printf("\nSlots compared with a question, 4,096 slots lent, over the whole day:\n%7s %9s %9s "
+           "%7s %16s %16s\n",
            "filters", "asked", "anew", "filled", "looks a question", "most looks");
     for (unsigned s = 0; s < SIZES; s++) {
         make_book(&book, filter_counts[s], seed + 1);

@@ -8,7 +8,13 @@
 
 #include "esquirmell.h"
 
-enum { MOST_FILTERS = 64, FILTER_STATES = 8, BOOK_ROOM = 4610, DAY_ROOM = 1048576, XML_ROOM = 1 << 23 };
+enum {
+    MOST_FILTERS = 64,
+    FILTER_STATES = 8,
+    BOOK_ROOM = 4610,
+    DAY_ROOM = 1048576,
+    XML_ROOM = 1 << 23
+};
 
 /* A book, and each of its filters as an XPath expression too. */
 typedef struct {
@@ -42,7 +48,8 @@ void spoil_numbers(day_file *day); /* of the events alone: the XML stays */
 
 /* One run of an engine; the rows are in lent->answers, the totals come back. */
 esq_total proved_run(const filter_book *book, const day_file *day, size_t slots, lent_areas *lent);
-esq_total second_engine_run(const filter_book *book, const day_file *day, size_t slots, lent_areas *lent);
+esq_total second_engine_run(const filter_book *book, const day_file *day, size_t slots,
+                            lent_areas *lent);
 uint64_t read_events(const day_file *day); /* only reads them: how many starts there are */
 
 /* xml.c, or no_xml.c where libxml2 is not installed. */

@@ -1,12 +1,18 @@
 /* How many slots are compared with a question, counted by walking the same
- * chains as crates/index with the hash of crates/hash, and what the worst costs. */
+ * chains as crates/memory_index with the hash of crates/memory_hash, and what the worst costs. */
 #include <stdio.h>
 #include <stdlib.h>
 #include <string.h>
 
 #include "bench.h"
 
-enum { HEADS = 8192, LEVELS = 65, LEAF = 1, KEY = ESQ_QUESTION_NUMBERS, COLLIDING_QUESTIONS = 20000 };
+enum {
+    HEADS = 8192,
+    LEVELS = 65,
+    LEAF = 1,
+    KEY = ESQ_QUESTION_NUMBERS,
+    COLLIDING_QUESTIONS = 20000
+};
 
 static uint64_t lane(uint64_t w, uint64_t a, uint64_t b) {
     return (uint64_t)(uint32_t)(w + a) * (uint32_t)((w >> 32) + b);
@@ -18,8 +24,7 @@ static unsigned hash(const uint64_t *q) {
         {3432918353, 461845907},  {2654435761, 3864292196}, {2127912214, 3345072700},
         {3042594569, 4251993797}, {1181783497, 2860486313}, {1540483477, 2971215073}};
     uint64_t s = 0;
-    for (unsigned k = 0; k < KEY; k++)
-        s ^= lane(q[k], moved[k][0], moved[k][1]);
+    for (unsigned k = 0; k < KEY; k++) s ^= lane(q[k], moved[k][0], moved[k][1]);
     return (unsigned)(s >> 32) % HEADS;
 }
 
@@ -39,14 +44,14 @@ static void ask(chains *c, const filter_book *book, const uint64_t *question, ui
         at = c->next[at - 1];
     c->asked++;
     c->looks += looks;
-    if (looks > c->most)
-        c->most = looks;
+    if (looks > c->most) c->most = looks;
     if (at != 0) {
         memcpy(answer, c->slot[at - 1] + KEY, 8 * ESQ_ANSWER_NUMBERS);
         return;
     }
     c->anew++;
-    esquirmell_ask(book->bytes, book->length, NULL, 0, 0, 0, question, KEY, answer, ESQ_ANSWER_NUMBERS);
+    esquirmell_ask(book->bytes, book->length, NULL, 0, 0, 0, question, KEY, answer,
+                   ESQ_ANSWER_NUMBERS);
     if (c->filled < ESQ_MOST_SLOTS) {
         memcpy(c->slot[c->filled], question, 8 * KEY);
         memcpy(c->slot[c->filled] + KEY, answer, 8 * ESQ_ANSWER_NUMBERS);
@@ -60,10 +65,11 @@ static void join_leaves(const filter_book *book, long value, uint64_t *set) {
     const uint8_t *state = book->bytes + 2 + 8 * book->filters;
     for (unsigned k = 0; k < FILTER_STATES * book->filters; k++, state += 8) {
         long constant = state[4] | state[5] << 8;
-        bool holds = state[1] == 1 ? value == constant : state[1] == 5 ? value > constant
-                   : state[1] == 4 ? value <= constant : value >= constant;
-        if (state[0] == LEAF && holds)
-            set[k / 64] |= UINT64_C(1) << k % 64;
+        bool holds = state[1] == 1   ? value == constant
+                     : state[1] == 5 ? value > constant
+                     : state[1] == 4 ? value <= constant
+                                     : value >= constant;
+        if (state[0] == LEAF && holds) set[k / 64] |= UINT64_C(1) << k % 64;
     }
 }
 
@@ -83,8 +89,7 @@ static void walk(chains *c, const filter_book *book, const uint8_t *at, const ui
             join_leaves(book, strtol(words, NULL, 10), level[depth]);
         } else {
             ask(c, book, level[depth--], answer);
-            for (unsigned k = 0; k < ESQ_ANSWER_NUMBERS; k++)
-                level[depth][k] |= answer[k];
+            for (unsigned k = 0; k < ESQ_ANSWER_NUMBERS; k++) level[depth][k] |= answer[k];
         }
         at += at[0] == 2 ? 2 + (size_t)at[1] : 3;
     }
@@ -96,8 +101,7 @@ static uint32_t four(const uint8_t *at) {
 
 void report_looks(const filter_book *book, const day_file *day, lent_areas *lent) {
     chains *c = calloc(1, sizeof *c);
-    if (c == NULL)
-        exit(2);
+    if (c == NULL) exit(2);
     esq_total total = proved_run(book, day, ESQ_MOST_SLOTS, lent);
     for (unsigned k = 0; k < day->messages; k++) {
         const uint8_t *body = day->bytes + four(day->bytes + 2 + 8 * k);
@@ -123,8 +127,7 @@ static void fill_colliding(uint64_t *memory) {
     unsigned wanted = hash(question);
     for (size_t filled = 0; filled < ESQ_MOST_SLOTS;) {
         question[7]++;
-        if (hash(question) != wanted)
-            continue;
+        if (hash(question) != wanted) continue;
         memset(memory + ESQ_SLOT_NUMBERS * filled, 0, 8 * ESQ_SLOT_NUMBERS);
         memcpy(memory + ESQ_SLOT_NUMBERS * filled++, question, sizeof question);
     }
@@ -134,7 +137,8 @@ static void fill_colliding(uint64_t *memory) {
 static size_t day_of_ones(uint8_t *day, unsigned inner) {
     static const uint8_t start[3] = {1, 1, 0}, end[3] = {3, 1, 0};
     uint32_t length = 6 + 6 * inner;
-    const uint8_t head[10] = {1, 0, 10, 0, 0, 0, (uint8_t)length, (uint8_t)(length >> 8), (uint8_t)(length >> 16), 0};
+    const uint8_t head[10] = {
+        1, 0, 10, 0, 0, 0, (uint8_t)length, (uint8_t)(length >> 8), (uint8_t)(length >> 16), 0};
     memcpy(day, head, sizeof head);
     memcpy(day + 10, start, 3);
     for (unsigned k = 0; k < inner; k++) {
@@ -149,8 +153,8 @@ static double timed_pass(const uint8_t *day, size_t bytes, lent_areas *lent, siz
     static const uint8_t no_filters[2] = {0, 0};
     double before = seconds();
     esquirmell_pass(no_filters, 2, day, bytes, lent->memory, ESQ_SLOT_NUMBERS * filled,
-                    lent->answers, ESQ_ROW_NUMBERS * ESQ_MOST_MESSAGES,
-                    lent->workspace, ESQ_WORKSPACE_NUMBERS, 0, 0, filled);
+                    lent->answers, ESQ_ROW_NUMBERS * ESQ_MOST_MESSAGES, lent->workspace,
+                    ESQ_WORKSPACE_NUMBERS, 0, 0, filled);
     return seconds() - before;
 }
 
@@ -163,8 +167,11 @@ void report_collisions(lent_areas *lent) {
     bytes = day_of_ones(day, 0);
     double making = timed_pass(day, bytes, lent, ESQ_MOST_SLOTS);
     double each = (all - making - none) / COLLIDING_QUESTIONS;
-    printf("%d questions, a book of no filters: with no slot filled %.1f ns a question; with 4,096 slots filled that all\n"
-           "share its chain and differ in the eighth number, %.1f microseconds more, %.2f ns a look. Making the index\n"
+    printf("%d questions, a book of no filters: with no slot filled %.1f ns a question; with 4,096 "
+           "slots filled that all\n"
+           "share its chain and differ in the eighth number, %.1f microseconds more, %.2f ns a "
+           "look. Making the index\n"
            "of those 4,096 slots, which a pass does first, took %.1f ms.\n",
-           COLLIDING_QUESTIONS, 1e9 * none / COLLIDING_QUESTIONS, 1e6 * each, 1e9 * each / ESQ_MOST_SLOTS, 1e3 * making);
+           COLLIDING_QUESTIONS, 1e9 * none / COLLIDING_QUESTIONS, 1e6 * each,
+           1e9 * each / ESQ_MOST_SLOTS, 1e3 * making);
 }

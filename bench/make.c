@@ -6,7 +6,16 @@
 
 #include "bench.h"
 
-enum { SERVICE = 1, CALL = 2, LATE = 3, PLATFORM = 4, CANCELLED = 5, DAY = 32772, NUMBER = 32773, STATION = 32774 };
+enum {
+    SERVICE = 1,
+    CALL = 2,
+    LATE = 3,
+    PLATFORM = 4,
+    CANCELLED = 5,
+    DAY = 32772,
+    NUMBER = 32773,
+    STATION = 32774
+};
 enum { TRUE_KIND, LEAF, AND, OR, NOT, STEP };
 enum { EQUAL = 1, AT_MOST = 4, OVER = 5, AT_LEAST = 6 };
 enum { STATIONS = 40, MESSAGE_ROOM = 1024 };
@@ -61,7 +70,8 @@ static void xml(message *m, const char *words) {
 }
 
 /* `before` and `after` are what stands around the number in XML. */
-static void number_node(message *m, unsigned label, int number, const char *before, const char *after) {
+static void number_node(message *m, unsigned label, int number, const char *before,
+                        const char *after) {
     char words[16];
     snprintf(words, sizeof words, "%d", number);
     event(m, 1, label);
@@ -91,8 +101,7 @@ static void make_message(message *m) {
     event(m, 1, SERVICE);
     number_node(m, DAY, (int)below(7), "<service day=\"", "\"");
     number_node(m, NUMBER, 1000 + (int)below(9000), " number=\"", "\">");
-    for (unsigned calls = 3 + below(8); calls > 0; calls--)
-        make_call(m);
+    for (unsigned calls = 3 + below(8); calls > 0; calls--) make_call(m);
     event(m, 3, SERVICE);
     xml(m, "</service>");
 }
@@ -108,8 +117,7 @@ void make_day(day_file *day, unsigned most_messages, uint64_t seed) {
     day->xml_start[0] = 0;
     while (n < most_messages) {
         make_message(&m);
-        if (2 + 8 * ((size_t)n + 1) + start[n] + m.length > DAY_ROOM)
-            break;
+        if (2 + 8 * ((size_t)n + 1) + start[n] + m.length > DAY_ROOM) break;
         memcpy(bodies + start[n], m.body, m.length);
         memcpy(day->xml + day->xml_start[n], m.xml, m.xml_length);
         n++;
@@ -130,8 +138,7 @@ void make_day(day_file *day, unsigned most_messages, uint64_t seed) {
 void spoil_numbers(day_file *day) {
     uint8_t *at = day->bytes + 2 + 8 * day->messages, *end = day->bytes + day->length;
     for (; at < end; at += at[0] == 2 ? 2 + (size_t)at[1] : 3)
-        if (at[0] == 2)
-            at[2] = 'x';
+        if (at[0] == 2) at[2] = 'x';
 }
 
 /* ---- Books ---- */
@@ -213,10 +220,8 @@ void make_book(filter_book *book, unsigned filters, uint64_t seed) {
 /* A state moved up in its body: its successors move with it. */
 static void move_up(uint8_t *state, unsigned by) {
     unsigned first = state[2] | state[3] << 8, second = state[4] | state[5] << 8;
-    if (state[0] == AND || state[0] == OR || state[0] == NOT)
-        put2(state + 2, first + by);
-    if (state[0] == AND || state[0] == OR || state[0] == STEP)
-        put2(state + 4, second + by);
+    if (state[0] == AND || state[0] == OR || state[0] == NOT) put2(state + 2, first + by);
+    if (state[0] == AND || state[0] == OR || state[0] == STEP) put2(state + 4, second + by);
 }
 
 /* The same states as one filter: the first, with the others in its body. */

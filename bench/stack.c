@@ -18,31 +18,30 @@ static struct {
     uint64_t refusal;
 } lent;
 
-static void nothing(void) {
-    lent.refusal = 0;
-}
+static void nothing(void) { lent.refusal = 0; }
 
 static void run(void) {
-    lent.refusal = esquirmell_run(lent.book, lent.book_bytes, lent.day, lent.day_bytes,
-                                  lent.memory, ESQ_SLOT_NUMBERS * SLOTS,
-                                  lent.answers, ESQ_ROW_NUMBERS * ESQ_MOST_MESSAGES,
-                                  lent.workspace, ESQ_WORKSPACE_NUMBERS).refusal;
+    lent.refusal =
+        esquirmell_run(lent.book, lent.book_bytes, lent.day, lent.day_bytes, lent.memory,
+                       ESQ_SLOT_NUMBERS * SLOTS, lent.answers, ESQ_ROW_NUMBERS * ESQ_MOST_MESSAGES,
+                       lent.workspace, ESQ_WORKSPACE_NUMBERS)
+            .refusal;
 }
 
 static void pass(void) {
-    lent.refusal = esquirmell_pass(lent.book, lent.book_bytes, lent.day, lent.day_bytes,
-                                   lent.memory, ESQ_SLOT_NUMBERS * SLOTS,
-                                   lent.answers, ESQ_ROW_NUMBERS * ESQ_MOST_MESSAGES,
-                                   lent.workspace, ESQ_WORKSPACE_NUMBERS, 0, 0, 0).refusal;
+    lent.refusal =
+        esquirmell_pass(lent.book, lent.book_bytes, lent.day, lent.day_bytes, lent.memory,
+                        ESQ_SLOT_NUMBERS * SLOTS, lent.answers, ESQ_ROW_NUMBERS * ESQ_MOST_MESSAGES,
+                        lent.workspace, ESQ_WORKSPACE_NUMBERS, 0, 0, 0)
+            .refusal;
 }
 
 static void ask(void) {
     uint64_t question[ESQ_QUESTION_NUMBERS] = {0}, answer[ESQ_ANSWER_NUMBERS] = {0};
     question[8] = 1;
-    lent.refusal = esquirmell_ask(lent.book, lent.book_bytes,
-                                  lent.memory, ESQ_SLOT_NUMBERS * SLOTS, 0, 0,
-                                  question, ESQ_QUESTION_NUMBERS,
-                                  answer, ESQ_ANSWER_NUMBERS).refusal;
+    lent.refusal = esquirmell_ask(lent.book, lent.book_bytes, lent.memory, ESQ_SLOT_NUMBERS * SLOTS,
+                                  0, 0, question, ESQ_QUESTION_NUMBERS, answer, ESQ_ANSWER_NUMBERS)
+                       .refusal;
 }
 
 static void filter_body(void) {
@@ -62,13 +61,12 @@ static void call_on(uint8_t *stack, void (*call)(void)) {
 static void measure(const char *name, void (*call)(void)) {
     uint8_t *stack = malloc(STACK);
     size_t paint = 0;
-    if (stack == NULL)
-        abort();
+    if (stack == NULL) abort();
     memset(stack, PAINT, STACK);
     call_on(stack, call);
-    while (paint < STACK && stack[paint] == PAINT)
-        paint++;
-    printf("%-24s %6zu bytes of stack, refusal %d\n", name, (size_t)STACK - paint, (int)lent.refusal);
+    while (paint < STACK && stack[paint] == PAINT) paint++;
+    printf("%-24s %6zu bytes of stack, refusal %d\n", name, (size_t)STACK - paint,
+           (int)lent.refusal);
     free(stack);
 }
 
@@ -94,8 +92,7 @@ int main(int count, char **word) {
     lent.memory = calloc(ESQ_SLOT_NUMBERS * SLOTS, 8);
     lent.answers = calloc(ESQ_ROW_NUMBERS * ESQ_MOST_MESSAGES, 8);
     lent.workspace = calloc(ESQ_WORKSPACE_NUMBERS, 8);
-    if (lent.memory == NULL || lent.answers == NULL || lent.workspace == NULL)
-        return 2;
+    if (lent.memory == NULL || lent.answers == NULL || lent.workspace == NULL) return 2;
     measure("nothing", nothing);
     measure("esquirmell_run", run);
     measure("esquirmell_pass", pass);

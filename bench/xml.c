@@ -27,8 +27,7 @@ void xml_compile(const filter_book *book) {
 }
 
 void xml_drop(void) {
-    while (expressions > 0)
-        xmlXPathFreeCompExpr(compiled[--expressions]);
+    while (expressions > 0) xmlXPathFreeCompExpr(compiled[--expressions]);
 }
 
 static xmlDocPtr parsed(const day_file *day, unsigned k) {
@@ -37,8 +36,7 @@ static xmlDocPtr parsed(const day_file *day, unsigned k) {
 }
 
 void xml_parse_only(const day_file *day) {
-    for (unsigned k = 0; k < day->messages; k++)
-        xmlFreeDoc(parsed(day, k));
+    for (unsigned k = 0; k < day->messages; k++) xmlFreeDoc(parsed(day, k));
 }
 
 static uint64_t true_filters(xmlXPathContextPtr context) {

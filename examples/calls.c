@@ -17,8 +17,7 @@ static uint64_t workspace[ESQ_WORKSPACE_NUMBERS];
 static size_t read_file(const char *path, uint8_t *room, size_t size) {
     FILE *file = fopen(path, "rb");
     size_t bytes = file == NULL ? 0 : fread(room, 1, size, file);
-    if (file != NULL)
-        fclose(file);
+    if (file != NULL) fclose(file);
     return bytes;
 }
 
@@ -33,9 +32,9 @@ static void show_question(void) {
     uint64_t answer[ESQ_ANSWER_NUMBERS];
     esq_reply reply = {0, 0, 0};
     for (int k = 0; k < 2; k++) { /* the second time a slot has the answer */
-        reply = esquirmell_ask(book, book_bytes, memory, ESQ_SLOT_NUMBERS * SLOTS,
-                               reply.filled, reply.anew, question, ESQ_QUESTION_NUMBERS,
-                               answer, ESQ_ANSWER_NUMBERS);
+        reply =
+            esquirmell_ask(book, book_bytes, memory, ESQ_SLOT_NUMBERS * SLOTS, reply.filled,
+                           reply.anew, question, ESQ_QUESTION_NUMBERS, answer, ESQ_ANSWER_NUMBERS);
         printf("question: %" PRIu64 ", answer %#" PRIx64 ", anew %" PRIu64 ", filled %zu\n",
                reply.refusal, answer[0], reply.anew, reply.filled);
     }
@@ -45,11 +44,9 @@ static void show_question(void) {
 static void show_pass(void) {
     esq_total total = {0, 0, 0, 0};
     for (int k = 0; k < 2; k++) {
-        total = esquirmell_pass(book, book_bytes, day, day_bytes,
-                                memory, ESQ_SLOT_NUMBERS * SLOTS,
-                                answers, ESQ_ROW_NUMBERS * MESSAGES,
-                                workspace, ESQ_WORKSPACE_NUMBERS,
-                                total.asked, total.anew, total.filled);
+        total = esquirmell_pass(book, book_bytes, day, day_bytes, memory, ESQ_SLOT_NUMBERS * SLOTS,
+                                answers, ESQ_ROW_NUMBERS * MESSAGES, workspace,
+                                ESQ_WORKSPACE_NUMBERS, total.asked, total.anew, total.filled);
         printf("pass: %" PRIu64 ", asked %" PRIu64 ", anew %" PRIu64 ", filled %zu\n",
                total.refusal, total.asked, total.anew, total.filled);
     }
@@ -57,11 +54,10 @@ static void show_pass(void) {
 
 /* Null wherever the count is 0: no memory at all, then nothing at all. */
 static void show_null(void) {
-    esq_total run = esquirmell_run(book, book_bytes, day, day_bytes, NULL, 0,
-                                   answers, ESQ_ROW_NUMBERS * MESSAGES,
-                                   workspace, ESQ_WORKSPACE_NUMBERS);
-    printf("no slots: %" PRIu64 ", asked %" PRIu64 ", anew %" PRIu64 ", filled %zu\n",
-           run.refusal, run.asked, run.anew, run.filled);
+    esq_total run = esquirmell_run(book, book_bytes, day, day_bytes, NULL, 0, answers,
+                                   ESQ_ROW_NUMBERS * MESSAGES, workspace, ESQ_WORKSPACE_NUMBERS);
+    printf("no slots: %" PRIu64 ", asked %" PRIu64 ", anew %" PRIu64 ", filled %zu\n", run.refusal,
+           run.asked, run.anew, run.filled);
     run = esquirmell_run(NULL, 0, NULL, 0, NULL, 0, NULL, 0, NULL, 0);
     esq_total pass = esquirmell_pass(NULL, 0, NULL, 0, NULL, 0, NULL, 0, NULL, 0, 0, 0, 0);
     esq_reply ask = esquirmell_ask(NULL, 0, NULL, 0, 0, 0, NULL, 0, NULL, 0);
@@ -74,8 +70,8 @@ static void show_null(void) {
 /* No message, so no answer numbers are needed, and none of either is lent. */
 static void show_empty_day(void) {
     const uint8_t no_messages[2] = {0, 0};
-    esq_total run = esquirmell_run(book, book_bytes, no_messages, 2, NULL, 0, NULL, 0,
-                                   workspace, ESQ_WORKSPACE_NUMBERS);
+    esq_total run = esquirmell_run(book, book_bytes, no_messages, 2, NULL, 0, NULL, 0, workspace,
+                                   ESQ_WORKSPACE_NUMBERS);
     printf("empty day: %" PRIu64 "\n", run.refusal);
 }
 

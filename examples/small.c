@@ -34,8 +34,7 @@ static void print_row(unsigned message) {
     const uint64_t *row = answers + ESQ_ROW_NUMBERS * message;
     printf("%u %" PRIu64 " %" PRIu64, message + 1, row[0], row[1]);
     for (unsigned k = 0; k < 64; k++)
-        if (row[2] >> k & 1)
-            printf(" %" PRIu32, id_at(k));
+        if (row[2] >> k & 1) printf(" %" PRIu32, id_at(k));
     putchar('\n');
 }
 
@@ -50,15 +49,13 @@ int main(int count, char **word) {
         puts("too long");
         return 1;
     }
-    esq_total total = esquirmell_run(book, book_bytes, day, day_bytes,
-                                     memory, ESQ_SLOT_NUMBERS * SLOTS,
-                                     answers, ESQ_ROW_NUMBERS * MESSAGES,
-                                     workspace, ESQ_WORKSPACE_NUMBERS);
+    esq_total total =
+        esquirmell_run(book, book_bytes, day, day_bytes, memory, ESQ_SLOT_NUMBERS * SLOTS, answers,
+                       ESQ_ROW_NUMBERS * MESSAGES, workspace, ESQ_WORKSPACE_NUMBERS);
     /* A run that is not refused has a day file of 2 bytes or more. */
     unsigned messages = total.refusal == 0 ? day[0] | day[1] << 8 : 0;
-    for (unsigned k = 0; k < messages; k++)
-        print_row(k);
-    printf("total %" PRIu64 " %u %" PRIu64 " %" PRIu64 " %zu\n",
-           total.refusal, messages, total.asked, total.anew, total.filled);
+    for (unsigned k = 0; k < messages; k++) print_row(k);
+    printf("total %" PRIu64 " %u %" PRIu64 " %" PRIu64 " %zu\n", total.refusal, messages,
+           total.asked, total.anew, total.filled);
     return total.refusal == 0 ? 0 : 1;
 }

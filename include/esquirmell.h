@@ -75,8 +75,8 @@ extern "C" {
 #endif
 
 enum {
-    ESQ_SLOT_NUMBERS = 17,       /* a slot: asked set 8, label 1, answer 8 */
-    ESQ_MOST_SLOTS = 4096,       /* memory past so many slots is not used */
+    ESQ_SLOT_NUMBERS = 17, /* a slot: asked set 8, label 1, answer 8 */
+    ESQ_MOST_SLOTS = 4096, /* memory past so many slots is not used */
     ESQ_MOST_MESSAGES = 4096,
     ESQ_ROW_NUMBERS = 3,         /* a message's row: refusal, place, filters */
     ESQ_WORKSPACE_NUMBERS = 650, /* 65 levels of ten */
@@ -106,6 +106,9 @@ typedef struct {
     size_t start;
     size_t length;
 } esq_part;
+
+/* Below, an area and its count share a line. */
+/* clang-format off */
 
 /* The whole run, from no filled slot.
  *
@@ -151,6 +154,8 @@ esq_reply esquirmell_ask(const uint8_t *book, size_t book_bytes,
 /* Where the body of filter `id` stands in the book. Start and length are 0
  * exactly when the book is refused (1 to 7) or has no such id. */
 esq_part esquirmell_filter_body(const uint8_t *book, size_t book_bytes, uint32_t id);
+
+/* clang-format on */
 
 #ifdef __cplusplus
 }

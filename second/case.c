@@ -130,10 +130,9 @@ enum { INPUT_ROOM = 1 << 21 };
 static uint8_t *at_the_edge(uint8_t **room, const void *input, size_t len) {
     size_t page = (size_t)sysconf(_SC_PAGESIZE);
     if (*room == NULL) {
-        *room = mmap(NULL, INPUT_ROOM + page, PROT_READ | PROT_WRITE,
-                     MAP_PRIVATE | MAP_ANONYMOUS, -1, 0);
-        if (*room == MAP_FAILED || mprotect(*room + INPUT_ROOM, page, PROT_NONE) != 0)
-            must(NULL);
+        *room = mmap(NULL, INPUT_ROOM + page, PROT_READ | PROT_WRITE, MAP_PRIVATE | MAP_ANONYMOUS,
+                     -1, 0);
+        if (*room == MAP_FAILED || mprotect(*room + INPUT_ROOM, page, PROT_NONE) != 0) must(NULL);
     }
     if (len > INPUT_ROOM) must(NULL);
     if (len > 0) memcpy(*room + INPUT_ROOM - len, input, len);
@@ -150,12 +149,11 @@ static void call(const engine *e, const test_case *c, const uint8_t *book, const
     esq_result r = {0};
     for (int i = 0; i < LENT; i++) to[i] = o->lent[i].at + GUARD;
     if (c->call == CALL_RUN) {
-        r = e->run(book, c->book.len, day, c->day.len, to[MEMORY], c->memory,
-                   to[ANSWERS], c->answers, to[WORKSPACE], c->workspace);
+        r = e->run(book, c->book.len, day, c->day.len, to[MEMORY], c->memory, to[ANSWERS],
+                   c->answers, to[WORKSPACE], c->workspace);
     } else if (c->call == CALL_PASS) {
-        r = e->pass(book, c->book.len, day, c->day.len, to[MEMORY], c->memory,
-                    to[ANSWERS], c->answers, to[WORKSPACE], c->workspace,
-                    c->asked, c->anew, c->filled);
+        r = e->pass(book, c->book.len, day, c->day.len, to[MEMORY], c->memory, to[ANSWERS],
+                    c->answers, to[WORKSPACE], c->workspace, c->asked, c->anew, c->filled);
     } else if (c->call == CALL_ASK) {
         esq_reply reply = e->ask(book, c->book.len, to[MEMORY], c->memory, c->filled, c->anew,
                                  question, c->question_len, to[ANSWER], c->answer_len);
@@ -222,14 +220,17 @@ static void print_numbers(FILE *to, const uint64_t *at, size_t len) {
     fprintf(to, "\n");
 }
 
-typedef struct { const char *name; uint64_t *at; } field;
+typedef struct {
+    const char *name;
+    uint64_t *at;
+} field;
 enum { FIELDS = 9 };
 
 static void fields_of(test_case *c, field *f) {
     const field all[FIELDS] = {
         {"memory", &c->memory}, {"answers", &c->answers}, {"workspace", &c->workspace},
-        {"seed", &c->seed}, {"asked", &c->asked}, {"anew", &c->anew}, {"filled", &c->filled},
-        {"id", &c->id}, {"answer", &c->answer_len}};
+        {"seed", &c->seed},     {"asked", &c->asked},     {"anew", &c->anew},
+        {"filled", &c->filled}, {"id", &c->id},           {"answer", &c->answer_len}};
     memcpy(f, all, sizeof all);
 }
 

@@ -12,16 +12,22 @@ enum {
     SET_NUMBERS = 8,
     QUESTION_NUMBERS = 9,
     SLOT_NUMBERS = 17,
-    LEVEL_NUMBERS = 650,  /* what the workspace must have */
+    LEVEL_NUMBERS = 650, /* what the workspace must have */
     SLOTS_AT_MOST = 4096,
     STATES_AT_MOST = 512,
     DAY_AT_MOST = 1048576,
-    GUARD = 24,           /* numbers before and after everything lent */
-    FEW = 16              /* room for a question or an answer of a wrong count */
+    GUARD = 24, /* numbers before and after everything lent */
+    FEW = 16    /* room for a question or an answer of a wrong count */
 };
 
-typedef struct { uint8_t *at; size_t len, room; } bytes;
-typedef struct { uint64_t *at; size_t len, room; } numbers;
+typedef struct {
+    uint8_t *at;
+    size_t len, room;
+} bytes;
+typedef struct {
+    uint64_t *at;
+    size_t len, room;
+} numbers;
 
 enum call { CALL_RUN, CALL_BODY, CALL_ASK, CALL_PASS, CALLS };
 extern const char *const CALL_NAME[CALLS];
@@ -29,11 +35,11 @@ extern const char *const CALL_NAME[CALLS];
 typedef struct {
     enum call call;
     bytes book, day;
-    uint64_t memory, answers, workspace;       /* counts lent */
-    uint64_t seed;                             /* of the noise in everything lent */
-    numbers slots;                             /* in front of the memory, instead of noise */
-    uint64_t asked, anew, filled;              /* counts handed to the inner call and the pass */
-    uint64_t id;                               /* of the filter whose body is wanted */
+    uint64_t memory, answers, workspace; /* counts lent */
+    uint64_t seed;                       /* of the noise in everything lent */
+    numbers slots;                       /* in front of the memory, instead of noise */
+    uint64_t asked, anew, filled;        /* counts handed to the inner call and the pass */
+    uint64_t id;                         /* of the filter whose body is wanted */
     uint64_t question[FEW], question_len, answer_len;
 } test_case;
 
@@ -41,9 +47,9 @@ enum lent { MEMORY, ANSWERS, WORKSPACE, ANSWER, LENT };
 extern const char *const LENT_NAME[LENT];
 
 typedef struct {
-    uint64_t result[4];  /* result, part or reply, in the order of its fields */
-    numbers lent[LENT];  /* each with GUARD numbers before and after it */
-    bool inputs_kept;    /* book, day and question are what they were */
+    uint64_t result[4]; /* result, part or reply, in the order of its fields */
+    numbers lent[LENT]; /* each with GUARD numbers before and after it */
+    bool inputs_kept;   /* book, day and question are what they were */
 } outcome;
 
 typedef struct {
@@ -66,7 +72,7 @@ void add_number(numbers *n, uint64_t number);
 unsigned get_two(const uint8_t *at);
 uint32_t get_four(const uint8_t *at);
 
-uint64_t mix(uint64_t *state);  /* the next of a repeatable row of numbers */
+uint64_t mix(uint64_t *state); /* the next of a repeatable row of numbers */
 
 test_case copy_case(const test_case *c);
 void drop_case(test_case *c);

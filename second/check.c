@@ -20,25 +20,66 @@ enum { NUMBERS_END = 32 };
 static uint64_t refused[CALLS][NUMBERS_END], rows[NUMBERS_END];
 
 enum situation {
-    RUN_WITHOUT_SLOTS, RUN_SLOTS_LEFT, RUN_JUST_FULL, RUN_OVERFULL, RUN_4096_FILLED, RUN_MORE_LENT,
-    RUN_KEPT_ANSWER_USED, RUN_PLAUSIBLE_SLOTS, ASK_FIRST_SLOT, ASK_LATER_SLOT, ASK_TWO_SLOTS,
-    ASK_WRONG_ANSWER, ASK_UNFILLED_SLOT, ASK_KEPT, ASK_LAST_SLOT_KEPT, ASK_FULL, ASK_WITHOUT_SLOTS,
-    ASK_OTHER_STATES, ASK_PAST_STATES, ASK_NO_NODES_LABEL, ASK_FULL_NUMBERS, PASS_FROM_SLOTS,
-    PASS_FROM_COUNTS, PASS_WRONG_ROW, PASS_WRONG_COUNT, PASS_KEPT_MORE, BODY_FOUND, BODY_NO_ID,
-    BODY_REFUSED, SITUATIONS
+    RUN_WITHOUT_SLOTS,
+    RUN_SLOTS_LEFT,
+    RUN_JUST_FULL,
+    RUN_OVERFULL,
+    RUN_4096_FILLED,
+    RUN_MORE_LENT,
+    RUN_KEPT_ANSWER_USED,
+    RUN_PLAUSIBLE_SLOTS,
+    ASK_FIRST_SLOT,
+    ASK_LATER_SLOT,
+    ASK_TWO_SLOTS,
+    ASK_WRONG_ANSWER,
+    ASK_UNFILLED_SLOT,
+    ASK_KEPT,
+    ASK_LAST_SLOT_KEPT,
+    ASK_FULL,
+    ASK_WITHOUT_SLOTS,
+    ASK_OTHER_STATES,
+    ASK_PAST_STATES,
+    ASK_NO_NODES_LABEL,
+    ASK_FULL_NUMBERS,
+    PASS_FROM_SLOTS,
+    PASS_FROM_COUNTS,
+    PASS_WRONG_ROW,
+    PASS_WRONG_COUNT,
+    PASS_KEPT_MORE,
+    BODY_FOUND,
+    BODY_NO_ID,
+    BODY_REFUSED,
+    SITUATIONS
 };
-static const char *const SITUATION_NAME[SITUATIONS] = {
-    "run: no slot lent, questions asked", "run: slots left over", "run: just full",
-    "run: more different questions than slots", "run: 4,096 slots filled",
-    "run: more lent than 4,096 slots", "run: a kept answer used",
-    "run: plausible wrong slots lent", "ask: the first slot asks it", "ask: a later slot asks it",
-    "ask: two slots ask it, answers differ", "ask: a wrong answer comes back",
-    "ask: only an unfilled slot asks it", "ask: kept", "ask: kept in the last slot",
-    "ask: none asks it and all full", "ask: no slot lent", "ask: a set with TRUE, AND, OR, NOT",
-    "ask: a set past the last state", "ask: a label that no node has", "ask: full numbers",
-    "pass: from filled slots", "pass: from counts", "pass: wrong answers change a row",
-    "pass: wrong answers change a count", "pass: more kept after filled slots",
-    "body: found", "body: no such id", "body: book refused"};
+static const char *const SITUATION_NAME[SITUATIONS] = {"run: no slot lent, questions asked",
+                                                       "run: slots left over",
+                                                       "run: just full",
+                                                       "run: more different questions than slots",
+                                                       "run: 4,096 slots filled",
+                                                       "run: more lent than 4,096 slots",
+                                                       "run: a kept answer used",
+                                                       "run: plausible wrong slots lent",
+                                                       "ask: the first slot asks it",
+                                                       "ask: a later slot asks it",
+                                                       "ask: two slots ask it, answers differ",
+                                                       "ask: a wrong answer comes back",
+                                                       "ask: only an unfilled slot asks it",
+                                                       "ask: kept",
+                                                       "ask: kept in the last slot",
+                                                       "ask: none asks it and all full",
+                                                       "ask: no slot lent",
+                                                       "ask: a set with TRUE, AND, OR, NOT",
+                                                       "ask: a set past the last state",
+                                                       "ask: a label that no node has",
+                                                       "ask: full numbers",
+                                                       "pass: from filled slots",
+                                                       "pass: from counts",
+                                                       "pass: wrong answers change a row",
+                                                       "pass: wrong answers change a count",
+                                                       "pass: more kept after filled slots",
+                                                       "body: found",
+                                                       "body: no such id",
+                                                       "body: book refused"};
 static uint64_t situations[SITUATIONS];
 
 static void saw(enum situation s, bool it) { situations[s] += it; }
@@ -135,8 +176,10 @@ static void note_asked_set(const test_case *c) {
     bool other = false, past = false, full = true;
     for (unsigned k = 0; k < STATES_AT_MOST; k++) {
         if ((c->question[k / 64] >> (k % 64) & 1) == 0) continue;
-        if (k >= states) past = true;
-        else other = other || (c->book.at[first + 8 * k] != 1 && c->book.at[first + 8 * k] != 5);
+        if (k >= states)
+            past = true;
+        else
+            other = other || (c->book.at[first + 8 * k] != 1 && c->book.at[first + 8 * k] != 5);
     }
     for (unsigned i = 0; i < SET_NUMBERS; i++) full = full && c->question[i] == UINT64_MAX;
     uint64_t label = c->question[SET_NUMBERS];
@@ -259,9 +302,12 @@ static void disagree(const test_case *c) {
     printf("--- the second engine:\n");
     print_outcome(stdout, &smaller, &by_second);
     printf("--- the engine under test:\n");
-    if (fell == SIGALRM) printf("does not come back within %u seconds\n", how.seconds_a_call);
-    else if (fell != 0) printf("falls over with signal %d\n", (int)fell);
-    else print_outcome(stdout, &smaller, &by_other);
+    if (fell == SIGALRM)
+        printf("does not come back within %u seconds\n", how.seconds_a_call);
+    else if (fell != 0)
+        printf("falls over with signal %d\n", (int)fell);
+    else
+        print_outcome(stdout, &smaller, &by_other);
     exit(1);
 }
 

@@ -15,9 +15,12 @@ int main(int argc, char **argv) {
     bool quick = false, table = false;
     luck.at = 1;
     for (int i = 1; i < argc; i++) {
-        if (strcmp(argv[i], "quick") == 0) quick = true;
-        else if (strcmp(argv[i], "table") == 0) table = true;
-        else luck.at = strtoull(argv[i], NULL, 10);
+        if (strcmp(argv[i], "quick") == 0)
+            quick = true;
+        else if (strcmp(argv[i], "table") == 0)
+            table = true;
+        else
+            luck.at = strtoull(argv[i], NULL, 10);
     }
     if (quick) percent = 4;
     start_checks((manner){.no_shrink = quick, .seconds_a_call = quick ? 20 : 120});

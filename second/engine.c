@@ -19,9 +19,9 @@ enum {
     MOST_DAY_BYTES = 1048576,
     MOST_OPEN = 64,
     MOST_SLOTS = 4096,
-    SET = 8,       /* numbers in a set */
-    QUESTION = 9,  /* a set and a label */
-    SLOT = 17,     /* a question and its answer */
+    SET = 8,      /* numbers in a set */
+    QUESTION = 9, /* a set and a label */
+    SLOT = 17,    /* a question and its answer */
     WORKSPACE = 650,
     ANY_ELEMENT = 0,
     ANY_ATTRIBUTE = 32768,
@@ -52,13 +52,9 @@ static void *must(void *room) {
     return room;
 }
 
-static uint32_t two_bytes(const uint8_t *at) {
-    return (uint32_t)at[0] | (uint32_t)at[1] << 8;
-}
+static uint32_t two_bytes(const uint8_t *at) { return (uint32_t)at[0] | (uint32_t)at[1] << 8; }
 
-static uint32_t four_bytes(const uint8_t *at) {
-    return two_bytes(at) | two_bytes(at + 2) << 16;
-}
+static uint32_t four_bytes(const uint8_t *at) { return two_bytes(at) | two_bytes(at + 2) << 16; }
 
 /* ---- The book ---------------------------------------------------------- */
 
@@ -173,8 +169,8 @@ static void read_book(const uint8_t *b, book *out) {
     }
 }
 
-void second_filter_body(const uint8_t *b, size_t len, uint32_t id,
-                        uint64_t *start, uint64_t *length) {
+void second_filter_body(const uint8_t *b, size_t len, uint32_t id, uint64_t *start,
+                        uint64_t *length) {
     *start = 0;
     *length = 0;
     if (refuse_book(b, len) != 0) return;
@@ -223,13 +219,13 @@ typedef struct {
 } node;
 
 typedef struct {
-    node *node;       /* node[0] is the root, the others in order of their starts */
+    node *node; /* node[0] is the root, the others in order of their starts */
     uint32_t nodes;
     uint32_t *closed; /* the nodes in order of their accepted ends */
     uint32_t closings;
     unsigned refusal;
     size_t place;
-    uint32_t at;      /* the innermost open node; the root if nothing is open */
+    uint32_t at; /* the innermost open node; the root if nothing is open */
     unsigned open;
 } tree;
 
@@ -277,8 +273,10 @@ static void accept_start(tree *t, unsigned label) {
     uint32_t born = t->nodes++;
     node *parent = &t->node[t->at];
     t->node[born] = (node){.label = label, .parent = t->at};
-    if (parent->first_child == NONE) parent->first_child = born;
-    else t->node[parent->last_child].next = born;
+    if (parent->first_child == NONE)
+        parent->first_child = born;
+    else
+        t->node[parent->last_child].next = born;
     parent->last_child = born;
     if (is_element(label)) parent->has_child_element = true;
     t->at = born;
@@ -514,11 +512,9 @@ static void run_message(const book *b, tree *t, questions *list, uint64_t *row) 
     free(m.known);
 }
 
-esq_result second_run(const uint8_t *book_bytes, size_t book_len,
-                      const uint8_t *day, size_t day_len,
-                      uint64_t *memory, size_t memory_len,
-                      uint64_t *answers, size_t answers_len,
-                      uint64_t *workspace, size_t workspace_len) {
+esq_result second_run(const uint8_t *book_bytes, size_t book_len, const uint8_t *day,
+                      size_t day_len, uint64_t *memory, size_t memory_len, uint64_t *answers,
+                      size_t answers_len, uint64_t *workspace, size_t workspace_len) {
     esq_result r = {0};
     r.refusal = refuse_run(book_bytes, book_len, day, day_len, answers_len, workspace_len);
     if (r.refusal != 0) return r;
@@ -591,11 +587,9 @@ static void ask(asker *a, const uint64_t *asked, uint64_t *answer) {
 
 static const uint64_t COUNT_END = UINT64_C(1) << 63;
 
-esq_reply second_ask(const uint8_t *book_bytes, size_t book_len,
-                     uint64_t *memory, size_t memory_len,
-                     uint64_t filled, uint64_t anew,
-                     const uint64_t *asked, size_t asked_len,
-                     uint64_t *answer, size_t answer_len) {
+esq_reply second_ask(const uint8_t *book_bytes, size_t book_len, uint64_t *memory,
+                     size_t memory_len, uint64_t filled, uint64_t anew, const uint64_t *asked,
+                     size_t asked_len, uint64_t *answer, size_t answer_len) {
     esq_reply r = {0};
     r.refusal = refuse_book(book_bytes, book_len);
     if (r.refusal != 0) return r;
@@ -652,11 +646,9 @@ static uint64_t pass_message(asker *a, const tree *t, uint64_t *row) {
     return t->closings;
 }
 
-esq_result second_pass(const uint8_t *book_bytes, size_t book_len,
-                       const uint8_t *day, size_t day_len,
-                       uint64_t *memory, size_t memory_len,
-                       uint64_t *answers, size_t answers_len,
-                       uint64_t *workspace, size_t workspace_len,
+esq_result second_pass(const uint8_t *book_bytes, size_t book_len, const uint8_t *day,
+                       size_t day_len, uint64_t *memory, size_t memory_len, uint64_t *answers,
+                       size_t answers_len, uint64_t *workspace, size_t workspace_len,
                        uint64_t asked, uint64_t anew, uint64_t filled) {
     esq_result r = {0};
     r.refusal = refuse_run(book_bytes, book_len, day, day_len, answers_len, workspace_len);

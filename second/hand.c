@@ -149,12 +149,12 @@ static void refused_days(void) {
 
 static void two_refusals(void) {
     as_small_day(34);
-    now.book.at[26 + 4] = 4;                 /* 7 in the first filter */
-    now.book.at[now.book.len - 8] = 6;       /* 6 in the last */
+    now.book.at[26 + 4] = 4;           /* 7 in the first filter */
+    now.book.at[now.book.len - 8] = 6; /* 6 in the last */
     by_hand("refusals-6-and-7", "6 0 0 0", NULL);
     as_small_day(34);
-    now.book.at[2 + 4]++;                    /* 5 in the first entry */
-    now.book.at[2 + 16] = 20;                /* 3 in the last */
+    now.book.at[2 + 4]++;     /* 5 in the first entry */
+    now.book.at[2 + 16] = 20; /* 3 in the last */
     by_hand("refusals-3-and-5", "3 0 0 0", NULL);
     as_small_day(34);
     now.day.at[6]++;
@@ -257,8 +257,10 @@ static void relations(int32_t constant) {
 
 static void values(void) {
     static const char *const text[] = {
-        "", "-", "+5", "-_5", "1.5", "-0", "0", "5", "-5", "0005", "-0005", "_5", "5_", "\r\n5\t",
-        "5_5", "\v5", "--5", "5-", "2147483647", "-2147483648", "9999999999999x", "+2147483648"};
+        "",           "-",   "+5",   "-_5",   "1.5",        "-0",          "0",
+        "5",          "-5",  "0005", "-0005", "_5",         "5_",          "\r\n5\t",
+        "5_5",        "\v5", "--5",  "5-",    "2147483647", "-2147483648", "9999999999999x",
+        "+2147483648"};
     new_book(&book);
     relations(5);
     relations(0);
@@ -284,8 +286,7 @@ static void values(void) {
     message("s1 t-2147483648 e1");
     message("s1 t-2147483649 e1");
     as_run(170);
-    by_hand("range-ends", "0 2 2 2",
-            "0 0 4461828, 27 3 0, 0 0 345153, 27 3 0");
+    by_hand("range-ends", "0 2 2 2", "0 0 4461828, 27 3 0, 0 0 345153, 27 3 0");
 }
 
 static void long_text(char fill, const char *tail) {
@@ -309,8 +310,7 @@ static void long_texts(void) {
     long_text('0', "2147483648");
     long_text('0', "2147483647");
     as_run(170);
-    by_hand("texts-of-255-bytes", NULL,
-            "0 0 1089, 0 0 84, 27 3 0, 0 0 0, 27 3 0, 0 0 1284");
+    by_hand("texts-of-255-bytes", NULL, "0 0 1089, 0 0 84, 27 3 0, 0 0 0, 27 3 0, 0 0 1284");
 }
 
 /* ---- Books ------------------------------------------------------------------------------- */
@@ -340,8 +340,7 @@ static void shortcuts(void) {
     message("s1 s2 t5 e2 s3 t4 e3 e1");
     message("s1 s3 t4 e3 s2 t5 e2 e1");
     as_run(170);
-    by_hand("shortcuts-that-give-wrong-notices", NULL,
-            "0 0 3, 0 0 0, 0 0 6, 0 0 6");
+    by_hand("shortcuts-that-give-wrong-notices", NULL, "0 0 3, 0 0 0, 0 0 6, 0 0 6");
 }
 
 static void loops(void) {
@@ -410,9 +409,14 @@ static void most_states(void) {
 }
 
 static void bodies(void) {
-    static const struct { const char *name; uint32_t id; const char *gives; } wanted[] = {
-        {"body-10", 10, "26 32"}, {"body-20", 20, "58 48"}, {"body-30", 30, "106 48"},
-        {"body-no-such-id", 11, "0 0"}};
+    static const struct {
+        const char *name;
+        uint32_t id;
+        const char *gives;
+    } wanted[] = {{"body-10", 10, "26 32"},
+                  {"body-20", 20, "58 48"},
+                  {"body-30", 30, "106 48"},
+                  {"body-no-such-id", 11, "0 0"}};
     for (unsigned i = 0; i < 4; i++) {
         as_small_day(0);
         now.call = CALL_BODY;

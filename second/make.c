@@ -21,9 +21,9 @@ void new_book(book_plan *p) {
 void new_filter(book_plan *p, uint32_t id) { p->id[p->filters++] = id; }
 
 static void put_state(uint8_t *s, unsigned kind, unsigned relation, unsigned at_2, uint32_t at_4) {
-    const uint8_t row[8] = {(uint8_t)kind, (uint8_t)relation, (uint8_t)at_2, (uint8_t)(at_2 >> 8),
-                            (uint8_t)at_4, (uint8_t)(at_4 >> 8), (uint8_t)(at_4 >> 16),
-                            (uint8_t)(at_4 >> 24)};
+    const uint8_t row[8] = {(uint8_t)kind,         (uint8_t)relation,    (uint8_t)at_2,
+                            (uint8_t)(at_2 >> 8),  (uint8_t)at_4,        (uint8_t)(at_4 >> 8),
+                            (uint8_t)(at_4 >> 16), (uint8_t)(at_4 >> 24)};
     memcpy(s, row, 8);
 }
 
@@ -103,8 +103,10 @@ static int32_t choose_constant(dice *d) {
 
 /* The last state of a path: a comparison, or nothing more to ask. */
 static void add_last(dice *d, book_plan *p) {
-    if (chance(d, 65)) add_leaf(p, from_to(d, 1, 6), choose_constant(d));
-    else add_row(p, TRUE_ROW, 0, 0);
+    if (chance(d, 65))
+        add_leaf(p, from_to(d, 1, 6), choose_constant(d));
+    else
+        add_row(p, TRUE_ROW, 0, 0);
 }
 
 static void make_path(dice *d, book_plan *p) {
@@ -172,8 +174,9 @@ void make_filter(dice *d, book_plan *p) {
 
 void make_book(dice *d, book_plan *p) {
     new_book(p);
-    unsigned filters = chance(d, 4) ? from_to(d, 0, 1) : chance(d, 12) ? from_to(d, 9, 64)
-                                                                        : from_to(d, 2, 8);
+    unsigned filters = chance(d, 4)    ? from_to(d, 0, 1)
+                       : chance(d, 12) ? from_to(d, 9, 64)
+                                       : from_to(d, 2, 8);
     while (p->filters < filters && p->states + 14 <= STATES_AT_MOST) make_filter(d, p);
     if (p->filters > 0 && chance(d, 5)) p->id[p->filters - 1] = UINT32_MAX;
 }
@@ -190,13 +193,16 @@ void fill_book(dice *d, book_plan *p, unsigned filters, unsigned states) {
 /* ---- Books with something wrong ---------------------------------------------- */
 
 static void spoil_row(dice *d, uint8_t *s) {
-    static const uint8_t unused[ROWS][7] = {
-        {1, 2, 3, 4, 5, 6, 7}, {2, 3, 2, 3, 2, 3, 2}, {1, 6, 7, 1, 6, 7, 1},
-        {1, 6, 7, 1, 6, 7, 1}, {1, 4, 5, 6, 7, 4, 5}, {1, 6, 7, 1, 6, 7, 1}};
+    static const uint8_t unused[ROWS][7] = {{1, 2, 3, 4, 5, 6, 7}, {2, 3, 2, 3, 2, 3, 2},
+                                            {1, 6, 7, 1, 6, 7, 1}, {1, 6, 7, 1, 6, 7, 1},
+                                            {1, 4, 5, 6, 7, 4, 5}, {1, 6, 7, 1, 6, 7, 1}};
     unsigned way = below(d, 10);
-    if (way == 0) s[0] = (uint8_t)(chance(d, 50) ? ROWS : from_to(d, ROWS, 255));
-    else if (s[0] == LEAF_ROW && way < 6) s[1] = (uint8_t)(chance(d, 50) ? 0 : from_to(d, 7, 255));
-    else s[unused[s[0]][below(d, 7)]] = (uint8_t)(1u << below(d, 8));
+    if (way == 0)
+        s[0] = (uint8_t)(chance(d, 50) ? ROWS : from_to(d, ROWS, 255));
+    else if (s[0] == LEAF_ROW && way < 6)
+        s[1] = (uint8_t)(chance(d, 50) ? 0 : from_to(d, 7, 255));
+    else
+        s[unused[s[0]][below(d, 7)]] = (uint8_t)(1u << below(d, 8));
 }
 
 /* A successor that is not in a body of n states, or for AND, OR and NOT not higher. */
@@ -297,12 +303,44 @@ size_t event_size(const uint8_t *at, size_t left) {
 }
 
 static size_t put_odd_text(dice *d, uint8_t *text) {
-    static const char *const odd[] = {
-        "", "-", "+5", "- 5", "1.5", "-0", "--5", "5-", "5 5", "0005", "-0005", " 5", "5\t",
-        "\r\n5", "\v5", "5\f", "5e0", "0x5", "2147483647", "-2147483648", "2147483646",
-        "-2147483647", "0000000000002147483647", "-0000000000002147483648", " \t\r\n", "five",
-        "5,", ":", "/", "5\xa0", "12345678901a", "-99999999999 9", "256", "-256", "65536",
-        "\xef\xbc\x95", "6 ", "\n-3\r"};
+    static const char *const odd[] = {"",
+                                      "-",
+                                      "+5",
+                                      "- 5",
+                                      "1.5",
+                                      "-0",
+                                      "--5",
+                                      "5-",
+                                      "5 5",
+                                      "0005",
+                                      "-0005",
+                                      " 5",
+                                      "5\t",
+                                      "\r\n5",
+                                      "\v5",
+                                      "5\f",
+                                      "5e0",
+                                      "0x5",
+                                      "2147483647",
+                                      "-2147483648",
+                                      "2147483646",
+                                      "-2147483647",
+                                      "0000000000002147483647",
+                                      "-0000000000002147483648",
+                                      " \t\r\n",
+                                      "five",
+                                      "5,",
+                                      ":",
+                                      "/",
+                                      "5\xa0",
+                                      "12345678901a",
+                                      "-99999999999 9",
+                                      "256",
+                                      "-256",
+                                      "65536",
+                                      "\xef\xbc\x95",
+                                      "6 ",
+                                      "\n-3\r"};
     const char *it = odd[below(d, sizeof odd / sizeof odd[0])];
     memcpy(text, it, strlen(it));
     return strlen(it);
@@ -467,8 +505,10 @@ static void spoil_message_places(dice *d, day_plan *p) {
         static const int off[] = {1, -1, 8, 256, 65536, 1 << 24, INT32_MIN};
         int by = off[below(d, 7)];
         p->off_at = below(d, p->messages);
-        if (chance(d, 50)) p->start_off = by;
-        else p->length_off = by;
+        if (chance(d, 50))
+            p->start_off = by;
+        else
+            p->length_off = by;
     }
 }
 

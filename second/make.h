@@ -5,10 +5,12 @@
 
 #include "case.h"
 
-typedef struct { uint64_t at; } dice;
+typedef struct {
+    uint64_t at;
+} dice;
 
 uint64_t roll(dice *d);
-unsigned below(dice *d, unsigned end);           /* 0 to end - 1 */
+unsigned below(dice *d, unsigned end); /* 0 to end - 1 */
 unsigned from_to(dice *d, unsigned low, unsigned high);
 bool chance(dice *d, unsigned percent);
 
@@ -20,10 +22,10 @@ typedef struct {
     unsigned filters, states;
     uint32_t id[PLAN_FILTERS];
     unsigned n[PLAN_FILTERS];
-    int start_off[PLAN_FILTERS];     /* added to the start that is right */
-    uint8_t state[PLAN_STATES][8];   /* all bodies, one after the other */
-    int tail;                        /* bytes too many, or too few if negative */
-    size_t cut;                      /* the book is cut to this length */
+    int start_off[PLAN_FILTERS];   /* added to the start that is right */
+    uint8_t state[PLAN_STATES][8]; /* all bodies, one after the other */
+    int tail;                      /* bytes too many, or too few if negative */
+    size_t cut;                    /* the book is cut to this length */
 } book_plan;
 
 void new_book(book_plan *p);
@@ -35,8 +37,8 @@ void write_book(const book_plan *p, bytes *out);
 bool plan_of_book(const bytes *book, book_plan *p);
 void drop_filter(book_plan *p, unsigned filter);
 
-void make_filter(dice *d, book_plan *p);                 /* a filter of the railway */
-void make_soup(dice *d, book_plan *p, unsigned states);  /* any states that are allowed */
+void make_filter(dice *d, book_plan *p);                /* a filter of the railway */
+void make_soup(dice *d, book_plan *p, unsigned states); /* any states that are allowed */
 void make_book(dice *d, book_plan *p);
 /* Fills up with filters to exactly so many states. */
 void fill_book(dice *d, book_plan *p, unsigned filters, unsigned states);
@@ -49,7 +51,7 @@ typedef struct {
     unsigned nodes;
     struct {
         unsigned label, parent;
-        int text_len;  /* -1 if there is no text */
+        int text_len; /* -1 if there is no text */
         uint8_t text[255];
     } node[PLAN_NODES];
 } message_plan;
@@ -58,7 +60,7 @@ void make_message(dice *d, message_plan *p);
 /* With dice, attributes and child elements are written in some other order. */
 void write_message(const message_plan *p, bytes *out, dice *order);
 unsigned choose_label(dice *d, bool element);
-size_t choose_text(dice *d, uint8_t *text);  /* never a whole number out of range */
+size_t choose_text(dice *d, uint8_t *text); /* never a whole number out of range */
 void add_start(bytes *out, unsigned label);
 void add_text(bytes *out, const void *text, size_t len);
 void add_end(bytes *out, unsigned label);
@@ -69,15 +71,15 @@ typedef struct {
     unsigned messages;
     uint32_t length[PLAN_MESSAGES];
     bytes bodies;
-    size_t ended;               /* bytes of the bodies that belong to a message */
-    int start_off, length_off;  /* at message `off_at` */
+    size_t ended;              /* bytes of the bodies that belong to a message */
+    int start_off, length_off; /* at message `off_at` */
     unsigned off_at;
     int tail;
     size_t cut, pad_to;
 } day_plan;
 
 void new_day(day_plan *p);
-void end_message(day_plan *p);  /* what was added to the bodies since is a message */
+void end_message(day_plan *p); /* what was added to the bodies since is a message */
 void write_day(const day_plan *p, bytes *out);
 bool plan_of_day(const bytes *day, day_plan *p);
 void make_day(dice *d, day_plan *p, unsigned messages);

@@ -31,8 +31,8 @@ static uint64_t choose_count(void) {
 }
 
 static uint64_t choose_question_label(void) {
-    static const uint64_t none[] = {0,     32768,      65536,                 65537,
-                                    98305, UINT64_MAX, UINT64_C(1) << 32 | 2};
+    static const uint64_t none[] = {
+        0, 32768, 65536, 65537, 98305, UINT64_MAX, UINT64_C(1) << 32 | 2};
     if (chance(&luck, 8)) return none[below(&luck, 7)];
     return choose_label(&luck, chance(&luck, 70));
 }
@@ -60,7 +60,8 @@ static void add_made_up_slots(unsigned count) {
         slot[SET_NUMBERS] = choose_question_label();
         if (there > 0 && chance(&luck, 60))
             memcpy(slot, now.slots.at + SLOT_NUMBERS * below(&luck, there), sizeof slot);
-        else choose_set(slot + QUESTION_NUMBERS);
+        else
+            choose_set(slot + QUESTION_NUMBERS);
         if (chance(&luck, 60)) spoil_answer(slot + QUESTION_NUMBERS);
         for (unsigned k = 0; k < SLOT_NUMBERS; k++) add_number(&now.slots, slot[k]);
     }

@@ -42,8 +42,10 @@ void part_damage(void) {
         make_book(&luck, &book);
         make_day(&luck, &day, from_to(&luck, 1, 4));
         plans_to_case();
-        if (chance(&luck, 50)) damage(&luck, &now.book, 0);
-        else damage(&luck, &now.day, 0);
+        if (chance(&luck, 50))
+            damage(&luck, &now.book, 0);
+        else
+            damage(&luck, &now.day, 0);
         if (now.answers < 30) now.answers = 30;
         check(&now);
     }
@@ -55,17 +57,22 @@ enum { ENTRY_18 = 18, ENTRY_19 = 19 };
 
 static void spoil_entry(unsigned refusal) {
     if (refusal == ENTRY_18) {
-        if (chance(&luck, 50)) now.question_len = chance(&luck, 50) ? from_to(&luck, 0, 8) : 10;
-        else now.answer_len = chance(&luck, 50) ? from_to(&luck, 0, 7) : 9;
+        if (chance(&luck, 50))
+            now.question_len = chance(&luck, 50) ? from_to(&luck, 0, 8) : 10;
+        else
+            now.answer_len = chance(&luck, 50) ? from_to(&luck, 0, 7) : 9;
         return;
     }
     uint64_t slots = now.memory / SLOT_NUMBERS;
     if (slots > SLOTS_AT_MOST) slots = SLOTS_AT_MOST;
     uint64_t end = (UINT64_C(1) << 63) + (chance(&luck, 50) ? 0 : roll(&luck) >> 1);
     unsigned way = below(&luck, 3);
-    if (way == 0) now.filled = slots + 1 + (chance(&luck, 50) ? 0 : roll(&luck) >> 2);
-    else if (way == 1 && now.call == CALL_PASS) now.asked = end;
-    else now.anew = end;
+    if (way == 0)
+        now.filled = slots + 1 + (chance(&luck, 50) ? 0 : roll(&luck) >> 2);
+    else if (way == 1 && now.call == CALL_PASS)
+        now.asked = end;
+    else
+        now.anew = end;
 }
 
 static bool in(uint32_t set, unsigned refusal) { return set >> refusal & 1; }
@@ -98,10 +105,12 @@ static void make_refused(enum call call, uint32_t set) {
 }
 
 void part_refusals(void) {
-    static const struct { enum call call; unsigned count, number[14]; } gives[] = {
-        {CALL_RUN, 12, {1, 2, 3, 4, 5, 6, 7, 8, 9, 10, 11, 12}},
-        {CALL_PASS, 13, {1, 2, 3, 4, 5, 6, 7, 8, 9, 10, 11, 12, 19}},
-        {CALL_ASK, 9, {1, 2, 3, 4, 5, 6, 7, 18, 19}}};
+    static const struct {
+        enum call call;
+        unsigned count, number[14];
+    } gives[] = {{CALL_RUN, 12, {1, 2, 3, 4, 5, 6, 7, 8, 9, 10, 11, 12}},
+                 {CALL_PASS, 13, {1, 2, 3, 4, 5, 6, 7, 8, 9, 10, 11, 12, 19}},
+                 {CALL_ASK, 9, {1, 2, 3, 4, 5, 6, 7, 18, 19}}};
     for (unsigned g = 0; g < 3; g++)
         for (unsigned i = 0; i < gives[g].count; i++)
             for (unsigned k = i; k < gives[g].count; k++)
@@ -127,8 +136,10 @@ void part_refusals(void) {
 /* One event, whole or cut short, that may be refused where it is put. */
 static void add_probe(bytes *out, unsigned which) {
     static const unsigned label[] = {0, 1, 2, 3, 32767, 32768, 32769, 32772, 65535};
-    static const char *const text[] = {"", "6", "x", "2147483647", "2147483648", "-2147483648",
-                                       "-2147483649", "99999999999999999999", " 7\r\n"};
+    static const char *const text[] = {
+        "",           "6",           "x",           "2147483647",
+        "2147483648", "-2147483648", "-2147483649", "99999999999999999999",
+        " 7\r\n"};
     static const unsigned kind[] = {0, 4, 5, 128, 255};
     if (which < 9) {
         add_start(out, label[which]);
@@ -260,8 +271,10 @@ static void limit_messages(void) {
     for (unsigned messages = 4095; messages <= 4098; messages++) {
         new_day(&day);
         while (day.messages < messages) {
-            if (day.messages % 7 == 0) add_service(&day, true, 1, "7", NULL);
-            else end_message(&day);
+            if (day.messages % 7 == 0)
+                add_service(&day, true, 1, "7", NULL);
+            else
+                end_message(&day);
         }
         plans_to_case();
         check_gives(&now, messages <= 4096 ? 0 : 9);
@@ -339,13 +352,14 @@ static void limit_depth(void) {
         unsigned elements;
         bool attribute, closed;
         unsigned refusal, place;
-    } deep[] = {
-        {64, false, true, 0, 0},    {65, false, true, 25, 192}, {63, true, true, 0, 0},
-        {64, true, true, 25, 192},  {66, true, true, 25, 192},  {64, false, false, 29, 192},
-        {63, true, false, 29, 198}, {63, false, true, 0, 0}};
+    } deep[] = {{64, false, true, 0, 0},    {65, false, true, 25, 192}, {63, true, true, 0, 0},
+                {64, true, true, 25, 192},  {66, true, true, 25, 192},  {64, false, false, 29, 192},
+                {63, true, false, 29, 198}, {63, false, true, 0, 0}};
     for (unsigned n = times(60); n > 0; n--) {
-        if (n == 1) small_book(&book);
-        else make_book(&luck, &book);
+        if (n == 1)
+            small_book(&book);
+        else
+            make_book(&luck, &book);
         new_day(&day);
         for (unsigned i = 0; i < 8; i++)
             deep_message(deep[i].elements, deep[i].attribute, deep[i].closed);
@@ -362,8 +376,10 @@ static void limit_chain(void) {
         new_filter(&book, 1);
         for (unsigned k = 1; k < STATES_AT_MOST; k++)
             add_row(&book, kind[way % 3], k, way % 3 == 2 ? 0 : k);
-        if (way < 3) add_row(&book, STEP_ROW, 0, 0);
-        else add_leaf(&book, 1, 7);
+        if (way < 3)
+            add_row(&book, STEP_ROW, 0, 0);
+        else
+            add_leaf(&book, 1, 7);
         new_day(&day);
         deep_message(64, false, true);
         deep_message(63, true, true);

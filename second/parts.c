@@ -11,8 +11,8 @@ day_plan day;
 
 unsigned times(unsigned whole) { return (whole * percent + 99) / 100; }
 
-const uint64_t MEMORY_COUNTS[MEMORY_COUNTS_END] = {
-    0, 1, 16, 17, 33, 34, 1087, 1088, 69631, 69632, 69633, 69649, 80000};
+const uint64_t MEMORY_COUNTS[MEMORY_COUNTS_END] = {0,    1,     16,    17,    33,    34,   1087,
+                                                   1088, 69631, 69632, 69633, 69649, 80000};
 
 static uint64_t choose_memory(void) {
     if (chance(&luck, 40)) return SLOT_NUMBERS * below(&luck, 14) + below(&luck, 17);

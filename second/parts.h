@@ -6,15 +6,15 @@
 #include "make.h"
 
 extern dice luck;
-extern unsigned percent;  /* of the random inputs of a whole comparison */
-extern test_case now;       /* the case in the making */
+extern unsigned percent; /* of the random inputs of a whole comparison */
+extern test_case now;    /* the case in the making */
 extern book_plan book;
 extern day_plan day;
 
 enum { MEMORY_COUNTS_END = 13 };
 extern const uint64_t MEMORY_COUNTS[MEMORY_COUNTS_END];
 
-unsigned times(unsigned whole);  /* how often, if a whole comparison does so often */
+unsigned times(unsigned whole); /* how often, if a whole comparison does so often */
 
 /* Sizes with which the run is not refused, if the day file has its messages. */
 void choose_sizes(void);

@@ -98,8 +98,10 @@ static bool shrink_filters(test_case *c) {
         test_case smaller = copy_case(c);
         drop_filter(&p, f);
         write_book(&p, &smaller.book);
-        if (take(c, &smaller)) any = true;
-        else f++;
+        if (take(c, &smaller))
+            any = true;
+        else
+            f++;
     }
     return any;
 }
@@ -127,8 +129,10 @@ static bool shrink_slots(test_case *c) {
                 (smaller.slots.len - from - SLOT_NUMBERS) * sizeof *smaller.slots.at);
         smaller.slots.len -= SLOT_NUMBERS;
         if (smaller.filled > 0) smaller.filled--;
-        if (take(c, &smaller)) any = true;
-        else from += SLOT_NUMBERS;
+        if (take(c, &smaller))
+            any = true;
+        else
+            from += SLOT_NUMBERS;
     }
     return any;
 }

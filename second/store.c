@@ -138,8 +138,10 @@ static void check_files(void) {
         check_file(path);
         free(entry[i]);
     }
-    if (entries <= 0) fault(folder, "holds no stored results");
-    else free(entry);
+    if (entries <= 0)
+        fault(folder, "holds no stored results");
+    else
+        free(entry);
 }
 
 /* ---- The small day as the paper prints it -------------------------------------------------- */
@@ -149,11 +151,13 @@ static const char PAPER_ROWS[] = "1 0 0 10 30\n"
                                  "3 0 0 20 30\n"
                                  "4 0 0 20\n"
                                  "5 24 9\n";
-static const struct { unsigned slots; const char *total; } PAPER_TOTAL[] = {
-    {64, "total 0 5 17 8 8\n"},
-    {0, "total 0 5 17 17 0\n"},
-    {2, "total 0 5 17 14 2\n"},
-    {5, "total 0 5 17 9 5\n"}};
+static const struct {
+    unsigned slots;
+    const char *total;
+} PAPER_TOTAL[] = {{64, "total 0 5 17 8 8\n"},
+                   {0, "total 0 5 17 17 0\n"},
+                   {2, "total 0 5 17 14 2\n"},
+                   {5, "total 0 5 17 9 5\n"}};
 
 /* The lines that the day program prints for this outcome. */
 static char *day_lines(const test_case *c, const outcome *o) {

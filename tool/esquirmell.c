@@ -52,8 +52,7 @@ static const char *words_of(uint64_t refusal) {
 }
 
 static const char *refused_thing(uint64_t refusal) {
-    if (refusal <= 7)
-        return "book";
+    if (refusal <= 7) return "book";
     return refusal <= 10 ? "day file" : "run";
 }
 
@@ -75,16 +74,13 @@ static whole_file read_whole(const char *path) {
     whole_file file = {NULL, 0};
     size_t room = 1 << 16, got;
     FILE *from = fopen(path, "rb");
-    if (from == NULL)
-        unreadable(path);
+    if (from == NULL) unreadable(path);
     file.at = must(malloc(room));
     while ((got = fread(file.at + file.bytes, 1, room - file.bytes, from)) > 0) {
         file.bytes += got;
-        if (file.bytes == room)
-            file.at = must(realloc(file.at, room *= 2));
+        if (file.bytes == room) file.at = must(realloc(file.at, room *= 2));
     }
-    if (ferror(from))
-        unreadable(path);
+    if (ferror(from)) unreadable(path);
     fclose(from);
     return file;
 }
@@ -109,30 +105,28 @@ static uint32_t id_at(const uint8_t *book, unsigned place) {
 static void print_row(const uint8_t *book, unsigned message, const uint64_t *row) {
     printf("%u %" PRIu64 " %" PRIu64, message, row[0], row[1]);
     for (unsigned k = 0; k < 64; k++)
-        if (row[2] >> k & 1)
-            printf(" %" PRIu32, id_at(book, k));
+        if (row[2] >> k & 1) printf(" %" PRIu32, id_at(book, k));
     putchar('\n');
     if (row[0] != 0)
-        fprintf(stderr, "message %u, byte %" PRIu64 ", %" PRIu64 ": %s\n",
-                message, row[1], row[0], words_of(row[0]));
+        fprintf(stderr, "message %u, byte %" PRIu64 ", %" PRIu64 ": %s\n", message, row[1], row[0],
+                words_of(row[0]));
 }
 
 static void print_total(esq_total total, unsigned messages) {
-    printf("total %" PRIu64 " %u %" PRIu64 " %" PRIu64 " %zu\n",
-           total.refusal, messages, total.asked, total.anew, total.filled);
+    printf("total %" PRIu64 " %u %" PRIu64 " %" PRIu64 " %zu\n", total.refusal, messages,
+           total.asked, total.anew, total.filled);
     if (total.refusal != 0)
-        fprintf(stderr, "%s refused, %" PRIu64 ": %s\n",
-                refused_thing(total.refusal), total.refusal, words_of(total.refusal));
+        fprintf(stderr, "%s refused, %" PRIu64 ": %s\n", refused_thing(total.refusal),
+                total.refusal, words_of(total.refusal));
 }
 
 static esq_total run_and_print(whole_file book, whole_file day, size_t slots) {
     static uint64_t answers[ESQ_ROW_NUMBERS * ESQ_MOST_MESSAGES];
     static uint64_t workspace[ESQ_WORKSPACE_NUMBERS];
     static uint64_t memory[ESQ_SLOT_NUMBERS * ESQ_MOST_SLOTS];
-    esq_total total = esquirmell_run(book.at, book.bytes, day.at, day.bytes,
-                                     memory, ESQ_SLOT_NUMBERS * slots,
-                                     answers, ESQ_ROW_NUMBERS * ESQ_MOST_MESSAGES,
-                                     workspace, ESQ_WORKSPACE_NUMBERS);
+    esq_total total = esquirmell_run(
+        book.at, book.bytes, day.at, day.bytes, memory, ESQ_SLOT_NUMBERS * slots, answers,
+        ESQ_ROW_NUMBERS * ESQ_MOST_MESSAGES, workspace, ESQ_WORKSPACE_NUMBERS);
     unsigned messages = total.refusal == 0 ? day.at[0] | day.at[1] << 8 : 0;
     for (unsigned k = 0; k < messages; k++)
         print_row(book.at, k + 1, answers + ESQ_ROW_NUMBERS * k);

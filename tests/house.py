@@ -1,0 +1,87 @@
+#!/usr/bin/env python3
+"""Checks how the house is kept.
+
+- crates.txt lists, for each crate, the crates that its files name and no other.
+- No line of a contract, and no line of code or comment beside it, has more than 120 columns.
+- Every link of a page leads to a file or a folder, and every heading that it names is there.
+"""
+import glob
+import os
+import re
+import sys
+
+TOP = os.path.dirname(os.path.dirname(os.path.abspath(__file__)))
+KIT = ["bytes", "check", "io", "libc", "os"]
+WIDTH = 120
+
+
+def read(path):
+    return open(os.path.join(TOP, path), encoding="utf-8").read()
+
+
+def under(folder, *endings):
+    found = glob.glob(os.path.join(TOP, folder, "**"), recursive=True)
+    return sorted(os.path.relpath(p, TOP) for p in found if p.endswith(endings) and os.path.isfile(p))
+
+
+def listed():
+    lines = [line for line in read("crates.txt").split("\n") if line and not line.startswith("#")]
+    return {name: words.split() for name, _, words in (line.partition(":") for line in lines)}
+
+
+def named(crate, crates):
+    """The crates that the files of a crate name: in a path of a specification, or before `::` in code."""
+    found = set()
+    for path in under("crates/" + crate, ".antt", ".rt"):
+        text = read(path)
+        found |= set(re.findall(r"Rattle·(\w+?)(?=[.·])", text))
+        if path.endswith(".rt"):
+            code = re.sub(r"//.*", "", text)
+            found |= {word for word in re.findall(r"(?<![\w:])(\w+)::", code) if word in crates or word in KIT}
+    return found - {crate}
+
+
+def crates_as_listed():
+    crates = listed()
+    for crate, words in crates.items():
+        want = named(crate, crates)
+        for word in sorted(want - set(words)):
+            yield "crates.txt: %s names %s, which is not listed" % (crate, word)
+        for word in sorted(set(words) - want):
+            yield "crates.txt: %s lists %s, which it does not name" % (crate, word)
+
+
+def narrow():
+    for path in under("crates", ".rt"):
+        for number, line in enumerate(read(path).split("\n"), 1):
+            if len(line) > WIDTH and 'b"' not in line:
+                yield "%s:%d: %d columns" % (path, number, len(line))
+
+
+def anchors(text):
+    heads = re.findall(r"^#+ (.*)$", text, re.M)
+    return {re.sub(r"[^\w\- ]", "", head.lower()).replace(" ", "-") for head in heads}
+
+
+def links():
+    for page in [p for p in under("", ".md") if not p.startswith("target")]:
+        for link in re.findall(r"\]\(([^)\s]+)\)", re.sub(r"```.*?```", "", read(page), flags=re.S)):
+            path, _, head = link.partition("#")
+            there = os.path.normpath(os.path.join(os.path.dirname(page), path)) if path else page
+            if not os.path.exists(os.path.join(TOP, there)):
+                yield "%s: the link %s leads nowhere" % (page, link)
+            elif head and head not in anchors(read(there)):
+                yield "%s: %s has no heading %s" % (page, there, head)
+
+
+def main():
+    wrong = list(crates_as_listed()) + list(narrow()) + list(links())
+    for line in wrong:
+        print("house: " + line)
+    if wrong:
+        sys.exit("house: %d faults" % len(wrong))
+    print("house: crates.txt, columns and links are as they should be")
+
+
+if __name__ == "__main__":
+    main()
