@@ -104,3 +104,10 @@ module _ (b : List ℕ) (id : ℕ) where
     pub body-is : take (p .start + p .length - p .start) (drop (p .start) b) ≡ bodyOf b id
     unfolding bytesAt
     body-is = part-lent b (p .start) (p .length) ∙ ap (bytesAt b) e ∙ part-bytes
+
+    -- where it lies: k is the block, x where the book starts in it
+    pub body-handed : (k x : ℕ) →
+        _≡_ {A = ℕ × ℕ × List ℕ} (k, p .start + x, take (p .start + p .length - p .start) (drop (p .start) b)) (k, x + partOf b id .start, bodyOf b id)
+    body-handed k x =
+        let start-is : p .start + x ≡ x + partOf b id .start = omega (arith, ap (λ (q : rules.Part). q .start) e) in
+        λ i. (k, start-is i, body-is i)

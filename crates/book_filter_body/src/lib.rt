@@ -50,7 +50,7 @@ pub fn part_of(book: &[u8], id: u32) -> Part
 }
 
 pub fn filter_body(book: &[u8], id: u32) -> &[u8]
-    ensures { λ r. ⌜ BodyPromise (was book) id (now r) ⌝ }
+    ensures { λ r. ⌜ BodyPromise (book .entry) id r ⌝ }
 {
     let p = part_of(book, id);
     let start = p.start;

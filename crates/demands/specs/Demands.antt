@@ -1,8 +1,8 @@
 -- The three demands: a record each, a field a sentence, and a theorem each: every outcome g which the run's promise
 -- allows for what l lends has it. What must be believed is the records, and the definitions that they name:
 --   in this crate, specs/Words;
---   in crate rules, specs/ ASmallDay, Bytes, State, Book, DayFile, Value, Written, Message, Tree, Match, Order, Sets,
---   Memory, Pass, Asked, Run, Calls, Promise;
+--   in crate rules, specs/ ASmallDay, Bytes, State, Book, DayFile, Value, Written, Message, MessageTable, Tree, Match,
+--   Order, Sets, Memory, Pass, Asked, Run, Calls, Promise;
 --   in crate lists, specs/ Choice, Parts, Below, Checks, Same, Lending.
 -- Nothing in a folder behind one of these files need be believed, and nothing here after the last `=`: it is proof.
 -- tests/believed.py follows the names, and counts.
@@ -11,13 +11,13 @@ use Prim.Native.Nat.{ℕ, _+_, _*_, _<_}
 use lib.ListN.{length, getD, drop, replicate}
 use Rattle.lists.specs.Checks.{FirstToFail}
 use Rattle.rules.specs.{State.State, Book.filterCount, Book.statesBefore, Book.statesOf, DayFile.messageCount, DayFile.messageBody}
-use Rattle.rules.specs.{Tree.Content, Match.matches, Match.acceptedFilters, Match.MatchRule, Message.Event}
+use Rattle.rules.specs.{Tree.Content, Match.matches, Match.acceptedFilters, Match.MatchRule, Message.Event, MessageTable.rootAlone, MessageTable.opensAfter, MessageTable.messageRows}
 use Rattle.rules.specs.{Written.written, Written.messageShaped, Written.AreBytes, Written.writtenEvents, Written.IsMessage, Written.Begins, Written.Stuck}
 use Rattle.rules.specs.{Sets.bitAt, Sets.Question, Sets.either, Memory.FirstToAsk, Memory.slotAnswer, Memory.slotsWritten, Memory.Kept, Memory.ask}
-use Rattle.rules.specs.{Pass.Carried, Pass.asking, Run.Lent, Run.Returned, Run.runChecks, Run.run, Run.withMemory, Promise.RunPromise, Promise.one-run}
-use Rattle.rules.specs.{Asked.readTree, Asked.messageRow, Asked.notKept, Asked.HeldRight, Asked.dayNodes}
-use Rattle.rules.specs.Message.Place
-use Rattle.demands.specs.Words.{MessageAnswered, rowOf, refusalOf, filtersOf, rootOf, Permuted, C, questions, keptQuestions, smallOne, smallTwo, smallRenamed}
+use Rattle.rules.specs.{Pass.Carried, Pass.asking, Pass.passTo, Pass.passQuestionsTo, Pass.afterAsking, Run.Lent, Run.Returned, Run.runChecks, Run.run, Run.withMemory, Promise.RunPromise, Promise.one-run}
+use Rattle.rules.specs.{Asked.readTree, Asked.messageRow, Asked.notKept, Asked.HeldRight, Asked.nodesTo, Asked.dayNodes}
+use Rattle.rules.specs.Pass.AnySlots.{pass-asks, pass-count}
+use Rattle.demands.specs.Words.{MessageAnswered, rowOf, refusalOf, placeFor, filtersOf, rootOf, Permuted, C, questions, keptQuestions, smallOne, smallTwo, smallRenamed}
 pub mod Proofs
 pub mod Pair
 
@@ -37,15 +37,25 @@ pub record Demand1 (l : Lent) (g : Returned) : Type 0 where
   pub past-kept : g .refusal ≡ 0 →
       (drop (3 * messageCount (l .day)) (g .answers) ≡ drop (3 * messageCount (l .day)) (l .answers)) ×
       (g .workspace ≡ replicate 650 0 ++ drop 650 (l .workspace))
-  -- "a bad message is refused by number and place": at a place exactly if the events before it begin some readable
-  -- message, it is none itself, and none begins with them and the event there. (Where no whole event stands there,
-  -- which is 22 and 29, the last part says nothing: a message cut short may begin a readable one. Of 21 see
-  -- Place.no-kind.) Every refused message has such events before its place.
-  pub refused-there : (evs : List Event) (rest : List ℕ) → AreBytes (writtenEvents evs ++ rest) →
-      ((0 < readTree (writtenEvents evs ++ rest) .refusal) × (readTree (writtenEvents evs ++ rest) .place ≡ length (writtenEvents evs)))
-      ↔ (Begins (writtenEvents evs) × (IsMessage (writtenEvents evs ++ rest) → ⊥) × Stuck evs rest)
-  pub refused-where : (body : List ℕ) → AreBytes body → 0 < readTree body .refusal →
-      (evs : List Event) × (rest : List ℕ) × (body ≡ writtenEvents evs ++ rest) × (readTree body .place ≡ length (writtenEvents evs))
+  -- "a bad message is refused by number and place": by n at a place exactly if the events before it begin some readable
+  -- message and, with these events before it, the condition of row n of the message's table holds and no earlier row's.
+  pub refused-row : (k : ℕ) → MessageAnswered l g k → AreBytes (l .day) → (evs : List Event) (rest : List ℕ) →
+      messageBody (l .day) k ≡ writtenEvents evs ++ rest → (n : ℕ) → 0 < n →
+      ((refusalOf g k ≡ n) × (placeFor g k ≡ length (writtenEvents evs)))
+      ↔ (Begins (writtenEvents evs) × FirstToFail (messageRows (opensAfter rootAlone evs) rest) n)
+  -- And without the table: at a place exactly if the events before it begin some readable message, the message is none
+  -- itself, and none begins with them and the event there. (Where no whole event stands there, which is 22 and 29, the
+  -- last part says nothing: a message cut short may begin a readable one. Of 21 see Place.no-kind.)
+  pub refused-there : (k : ℕ) → MessageAnswered l g k → AreBytes (l .day) → (evs : List Event) (rest : List ℕ) →
+      messageBody (l .day) k ≡ writtenEvents evs ++ rest →
+      ((0 < refusalOf g k) × (placeFor g k ≡ length (writtenEvents evs)))
+      ↔ (Begins (writtenEvents evs) × (IsMessage (messageBody (l .day) k) → ⊥) × Stuck evs rest)
+  -- Every refused message has such events before its place.
+  pub refused-where : (k : ℕ) → MessageAnswered l g k → AreBytes (l .day) → 0 < refusalOf g k →
+      (evs : List Event) × (rest : List ℕ) × (messageBody (l .day) k ≡ writtenEvents evs ++ rest) ×
+      (placeFor g k ≡ length (writtenEvents evs))
+  -- "A message that is read has refusal 0 and place 0."
+  pub read-place : (k : ℕ) → MessageAnswered l g k → refusalOf g k ≡ 0 → placeFor g k ≡ 0
   -- "matches no filter".
   pub refused-message : (k : ℕ) → MessageAnswered l g k → (refusalOf g k ≡ 0 → ⊥) → filtersOf g k ≡ 0
   -- "and the messages after it are still read": a message's row follows from the book and its own bytes, and no other
@@ -62,8 +72,10 @@ demand-1 {l} {g} p = record {
   refused-exactly = Proofs.refused-by l g p;
   refused-keeps = Proofs.refused-keeps l g p;
   past-kept = λ e. (Proofs.answers-past l g p e, Proofs.workspace-is l g p e);
-  refused-there = Place.refused-at;
-  refused-where = Place.refused-where;
+  refused-row = λ k one. Proofs.given-row-number l g (one .promised) (one .accepted) k (one .within);
+  refused-there = λ k one. Proofs.given-there l g (one .promised) (one .accepted) k (one .within);
+  refused-where = λ k one. Proofs.given-where l g (one .promised) (one .accepted) k (one .within);
+  read-place = λ k one. Proofs.given-read-place l g (one .promised) (one .accepted) k (one .within);
   refused-message = λ k one. Proofs.given-refused l g (one .promised) (one .accepted) k (one .within);
   row-alone = λ k one. Proofs.given-row l g (one .promised) (one .accepted) k (one .within);
   same-bytes = λ k one {m} {h} {j} other b e.
@@ -118,6 +130,11 @@ pub record Demand3 (l : Lent) (g : Returned) : Type 0 where
   -- parent's set. By opening Pass.askAndJoin.
   pub answer-joined : (b : List State) (x : ℕ) (set up : List ℕ) (c : Carried) → let r = ask b (record { states = set; label = x }) (c .kept) in
       (asking b) .shut x set up c ≡ (either up (r .answer), record { asked = c .asked + 1; kept = r .kept })
+  -- Over the whole pass, from any filled slots: what is carried after n messages is what was carried before and the inner
+  -- call asked their questions in turn, each on the memory and the counts as the call before left them, each once; and
+  -- they are as many as the nodes that closed in those messages.
+  pub asked-in-turn : (book day : List ℕ) (c : Carried) (n : ℕ) → let qs = passQuestionsTo (statesOf book) day (c .kept) n in
+      ((passTo book day c n) .carried ≡ afterAsking (statesOf book) c qs) × (length qs ≡ length (nodesTo day n))
   -- The count asked is the number of the day file's questions, those of refused messages included.
   pub asked-is : g .refusal ≡ 0 → g .asked ≡ length (questions l)
   -- "answers worked out anew number exactly the questions not among the first C different ones asked earlier in that
@@ -139,6 +156,7 @@ pub demand-3 : {l : Lent} {g : Returned} → RunPromise l g → Demand3 l g
 demand-3 {l} {g} p = record {
   kept-answer = Proofs.first-held;
   answer-joined = λ b x set up c. refl;
+  asked-in-turn = λ book day c n. (pass-asks book day c n, pass-count (statesOf book) day (c .kept) n);
   asked-is = Proofs.asked-is l g p;
   anew-is = Proofs.anew-is l g p;
   memory-is = λ e. (Proofs.filled-is l g p e, Proofs.memory-is l g p e);

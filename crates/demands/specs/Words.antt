@@ -20,12 +20,15 @@ pub record MessageAnswered (l : Lent) (g : Returned) (k : ℕ) : Type 0 where
   pub accepted : g .refusal ≡ 0
   pub within : k < messageCount (l .day)
 
--- the three answer numbers of message k; its refusal; its filters
+-- the three answer numbers of message k; its refusal, its place and its filters
 abbrev pub rowOf : Returned → ℕ → List ℕ
 rowOf g k = part (g .answers) (3 * k) 3
 
 abbrev pub refusalOf : Returned → ℕ → ℕ
 refusalOf g k = getD (g .answers) (3 * k) 0
+
+abbrev pub placeFor : Returned → ℕ → ℕ
+placeFor g k = getD (g .answers) (3 * k + 1) 0
 
 abbrev pub filtersOf : Returned → ℕ → ℕ
 filtersOf g k = getD (g .answers) (3 * k + 2) 0

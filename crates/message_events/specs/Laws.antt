@@ -36,8 +36,7 @@ use Rattle.number_text.specs.Meant.{meant}
 use Rattle.number_text.specs.declared.Value.{Value as Said}
 use Rattle.number_text.specs.declared.Value.the-variants.{Number, NoNumber, OutOfRange}
 use Rattle.message_events.specs.declared.Reader.{Reader}
-use Rattle.message_events.specs.declared.Step.{Step}
-use Rattle.message_events.specs.declared.Step.the-variants.{Next, Refused}
+use Rattle.message_events.specs.Meant.{Stepped, goesOn, refusedAt}
 use Rattle.message_events.specs.Step.{labelIn, stageIn, past, childOpened, startBy, startFor, startOf, heldBy, textStep, textFor, textOf, closeOf, endStep, countsOf, endOf, beside, stepOf, IndexedNext}
 
 -- ── start ──
@@ -80,7 +79,7 @@ pub stage-element : (x stage : ℕ) → x ≤ 32768 → 1 ≡ stageAfter (attrib
 stage-element x stage h = rw (le-ltb 32768 x h)
 
 module _ (body ws : List ℕ) (s : Reader) where
-  pub start-short : length body - s .place < 3 → (Refused 22 (s .place), ws) ≡ startOf body ws s
+  pub start-short : length body - s .place < 3 → (refusedAt 22 (s .place), ws) ≡ startOf body ws s
   unfolding startOf pick
   start-short h = simp (lt-ltb _ _ h)
 
@@ -90,16 +89,16 @@ module _ (body ws : List ℕ) (s : Reader) where
     unfolding startOf startFor pick
     by-number = simp (le-ltb _ _ room) (rw (told, read))
 
-    pub start-refused : (e ≡ 0 → ⊥) → (Refused e (s .place), ws) ≡ startOf body ws s
+    pub start-refused : (e ≡ 0 → ⊥) → (refusedAt e (s .place), ws) ≡ startOf body ws s
     unfolding startBy
     start-refused h = go e h ∙ by-number
       where
-        go : (n : ℕ) → (n ≡ 0 → ⊥) → (Refused n (s .place), ws) ≡ startBy n x ws s
+        go : (n : ℕ) → (n ≡ 0 → ⊥) → (refusedAt n (s .place), ws) ≡ startBy n x ws s
         go zero k = absurd (k refl)
         go (suc n) k = refl
 
     pub start-next : (w : List ℕ) → e ≡ 0 → w ≡ childOpened ws (s .depth) (stageIn ws (s .depth)) x →
-        (Next (record { place = s .place + 3; depth = s .depth + 1; asked = s .asked; anew = s .anew; filled = s .filled }), w) ≡ startOf body ws s
+        (goesOn (record { place = s .place + 3; depth = s .depth + 1; asked = s .asked; anew = s .anew; filled = s .filled }), w) ≡ startOf body ws s
     unfolding startBy
     start-next w z h = rw h (rw z at by-number)
 
@@ -154,21 +153,21 @@ module _ (p : List ℕ) (n : ℕ) (ws : List ℕ) (d : ℕ) (v : Value) (r : Sai
 pub ruleset hold-laws = (hold-out, hold-word, hold-number)
 
 module _ (body : List ℕ) (b : List State) (ws : List ℕ) (s : Reader) where
-  pub text-short : length body - s .place < 2 → (Refused 22 (s .place), ws) ≡ textOf body b ws s
+  pub text-short : length body - s .place < 2 → (refusedAt 22 (s .place), ws) ≡ textOf body b ws s
   unfolding textOf pick
   text-short h = simp (lt-ltb _ _ h)
 
-  pub text-sized : (k : ℕ) (r : Step) (w : List ℕ) → 2 ≤ length body - s .place → k ≡ getD body (s .place + 1) 0 → (r, w) ≡ textFor k body b ws s → (r, w) ≡ textOf body b ws s
+  pub text-sized : (k : ℕ) (r : Stepped) (w : List ℕ) → 2 ≤ length body - s .place → k ≡ getD body (s .place + 1) 0 → (r, w) ≡ textFor k body b ws s → (r, w) ≡ textOf body b ws s
   unfolding textOf pick
   text-sized k r w room read e = simp (le-ltb _ _ room) (rw read at e)
 
   module _ (k : ℕ) where
-    pub text-cut : length body - s .place < k + 2 → (Refused 22 (s .place), ws) ≡ textFor k body b ws s
+    pub text-cut : length body - s .place < k + 2 → (refusedAt 22 (s .place), ws) ≡ textFor k body b ws s
     unfolding textFor pick
     text-cut h = simp (lt-ltb _ _ h)
 
     module _ (whole : k + 2 ≤ length body - s .place) where
-      pub text-astray : eqb (s .depth) 0 || not (eqb (stageIn ws (s .depth)) 0) ≡ true → (Refused 26 (s .place), ws) ≡ textFor k body b ws s
+      pub text-astray : eqb (s .depth) 0 || not (eqb (stageIn ws (s .depth)) 0) ≡ true → (refusedAt 26 (s .place), ws) ≡ textFor k body b ws s
       unfolding textFor pick
       text-astray e = simp (le-ltb _ _ whole, e)
 
@@ -180,11 +179,11 @@ module _ (body : List ℕ) (b : List State) (ws : List ℕ) (s : Reader) where
             let is : (h, w) ≡ heldBy (textValue (take k (drop (s .place + 2) body))) b ws (s .depth) = rw (add-sub-cancel-left (s .place + 2) k) at held in
             simp (le-ltb _ _ whole, there) (ap (λ (y : Bool × List ℕ). (textStep s k (y .0), y .1)) is)
 
-        pub text-out : h ≡ false → (Refused 27 (s .place), w) ≡ textFor k body b ws s
+        pub text-out : h ≡ false → (refusedAt 27 (s .place), w) ≡ textFor k body b ws s
         text-out f = rw f at text-held
 
         pub text-next : h ≡ true →
-            (Next (record { place = s .place + (k + 2); depth = s .depth; asked = s .asked; anew = s .anew; filled = s .filled }), w) ≡ textFor k body b ws s
+            (goesOn (record { place = s .place + (k + 2); depth = s .depth; asked = s .asked; anew = s .anew; filled = s .filled }), w) ≡ textFor k body b ws s
         text-next f = rw f at text-held
 
 pub ruleset text-laws = (text-cut, text-astray, text-out, text-next)
@@ -199,22 +198,22 @@ close-is b ws w m v a d c r e f =
     rw f (ap (λ (y : Reply). (record { anew = y .kept .anew; filled = y .kept .filled }, withLevel ws (d - 1) (joined (levelAt ws (d - 1)) (y .answer)), y .kept .memory)) g)
 
 module _ (body : List ℕ) (b : List State) (ws m : List ℕ) (s : Reader) where
-  pub end-short : length body - s .place < 3 → (Refused 22 (s .place), ws, m) ≡ endOf body b ws m s
+  pub end-short : length body - s .place < 3 → (refusedAt 22 (s .place), ws, m) ≡ endOf body b ws m s
   unfolding endOf pick
   end-short h = simp (lt-ltb _ _ h)
 
   module _ (room : 3 ≤ length body - s .place) where
-    pub end-none : s .depth ≡ 0 → (Refused 28 (s .place), ws, m) ≡ endOf body b ws m s
+    pub end-none : s .depth ≡ 0 → (refusedAt 28 (s .place), ws, m) ≡ endOf body b ws m s
     unfolding endOf pick
     end-none e = simp (le-ltb _ _ room, eq-eqb _ _ e)
 
     module _ (deep : s .depth ≡ 0 → ⊥) (x : ℕ) (read : x ≡ le2 body (s .place + 1)) where
-      pub end-other : (x ≡ labelIn ws (s .depth) → ⊥) → (Refused 28 (s .place), ws, m) ≡ endOf body b ws m s
+      pub end-other : (x ≡ labelIn ws (s .depth) → ⊥) → (refusedAt 28 (s .place), ws, m) ≡ endOf body b ws m s
       unfolding endOf pick
       end-other e = simp (le-ltb _ _ room, ne-eqb _ _ deep, ne-eqb _ _ (rw read at e))
 
       pub end-own : (r : Counts) (w v : List ℕ) → x ≡ labelIn ws (s .depth) → (r, w, v) ≡ closeOf b ws (s .depth) m (countsOf s) →
-          (Next (record { place = s .place + 3; depth = s .depth - 1; asked = s .asked + 1; anew = r .anew; filled = r .filled }), w, v) ≡ endOf body b ws m s
+          (goesOn (record { place = s .place + 3; depth = s .depth - 1; asked = s .asked + 1; anew = r .anew; filled = r .filled }), w, v) ≡ endOf body b ws m s
       unfolding endOf pick
       end-own r w v e g =
           let own : eqb (le2 body (s .place + 1)) (labelIn ws (s .depth)) ≡ true = eq-eqb _ _ (sym read ∙ e) in
@@ -227,7 +226,7 @@ pub ruleset end-laws = (end-short, end-none, end-other, end-own)
 start-fills : (body ws : List ℕ) (s : Reader) (x m : List ℕ) → Indexed x m (s .filled) → IndexedNext x m (s .filled) (startOf body ws s .0)
 unfolding startOf startFor pick
 start-fills body ws s x m i =
-    pick-cases (λ (y : Step × List ℕ). IndexedNext x m (s .filled) (y .0)) (past body s 3) (λ e. i)
+    pick-cases (λ (y : Stepped × List ℕ). IndexedNext x m (s .filled) (y .0)) (past body s 3) (λ e. i)
     (λ e. go (startRefusal (s .depth) (labelIn ws (s .depth)) (stageIn ws (s .depth)) (le2 body (s .place + 1))))
   where
     go : (n : ℕ) → IndexedNext x m (s .filled) (startBy n (le2 body (s .place + 1)) ws s .0)
@@ -237,7 +236,7 @@ start-fills body ws s x m i =
 text-fills : (body : List ℕ) (b : List State) (ws : List ℕ) (s : Reader) (x m : List ℕ) → Indexed x m (s .filled) → IndexedNext x m (s .filled) (textOf body b ws s .0)
 unfolding textOf textFor
 text-fills body b ws s x m i =
-    let P : Step × List ℕ → Type 0 = λ y. IndexedNext x m (s .filled) (y .0) in
+    let P : Stepped × List ℕ → Type 0 = λ y. IndexedNext x m (s .filled) (y .0) in
     let k : ℕ = getD body (s .place + 1) 0 in
     pick-cases P (past body s 2) (λ e. i)
     (λ e. pick-cases P (past body s (k + 2)) (λ f. i)
@@ -249,29 +248,29 @@ text-fills body b ws s x m i =
     go k false = i
 
 module _ (body : List ℕ) (b : List State) (ws m : List ℕ) (s : Reader) (kind : ℕ) (read : kind ≡ getD body (s .place) 0) where
-  pub step-start : (r : Step) (w : List ℕ) → kind ≡ 1 → (r, w) ≡ startOf body ws s → (r, w, m) ≡ stepOf body b ws m s
+  pub step-start : (r : Stepped) (w : List ℕ) → kind ≡ 1 → (r, w) ≡ startOf body ws s → (r, w, m) ≡ stepOf body b ws m s
   unfolding stepOf pick
-  step-start r w e g = simp (eq-eqb _ _ (sym read ∙ e)) (ap (λ (y : Step × List ℕ). beside y m) g)
+  step-start r w e g = simp (eq-eqb _ _ (sym read ∙ e)) (ap (λ (y : Stepped × List ℕ). beside y m) g)
 
   module _ (one : kind ≡ 1 → ⊥) where
-    pub step-text : (r : Step) (w : List ℕ) → kind ≡ 2 → (r, w) ≡ textOf body b ws s → (r, w, m) ≡ stepOf body b ws m s
+    pub step-text : (r : Stepped) (w : List ℕ) → kind ≡ 2 → (r, w) ≡ textOf body b ws s → (r, w, m) ≡ stepOf body b ws m s
     unfolding stepOf pick
-    step-text r w e g = simp (ne-eqb _ _ (rw read at one), eq-eqb _ _ (sym read ∙ e)) (ap (λ (y : Step × List ℕ). beside y m) g)
+    step-text r w e g = simp (ne-eqb _ _ (rw read at one), eq-eqb _ _ (sym read ∙ e)) (ap (λ (y : Stepped × List ℕ). beside y m) g)
 
     module _ (two : kind ≡ 2 → ⊥) where
-      pub step-end : (r : Step) (w v : List ℕ) → kind ≡ 3 → (r, w, v) ≡ endOf body b ws m s → (r, w, v) ≡ stepOf body b ws m s
+      pub step-end : (r : Stepped) (w v : List ℕ) → kind ≡ 3 → (r, w, v) ≡ endOf body b ws m s → (r, w, v) ≡ stepOf body b ws m s
       unfolding stepOf pick
       step-end r w v e g = simp (ne-eqb _ _ (rw read at one), ne-eqb _ _ (rw read at two), eq-eqb _ _ (sym read ∙ e)) g
 
-      pub step-none : (kind ≡ 3 → ⊥) → (Refused 21 (s .place), ws, m) ≡ stepOf body b ws m s
+      pub step-none : (kind ≡ 3 → ⊥) → (refusedAt 21 (s .place), ws, m) ≡ stepOf body b ws m s
       unfolding stepOf pick
       step-none e = simp (ne-eqb _ _ (rw read at one), ne-eqb _ _ (rw read at two), ne-eqb _ _ (rw read at e))
 
 pub ruleset step-laws = (step-start, step-text, step-end, step-none)
 
-pub start-indexed : (body ws : List ℕ) (s : Reader) (x m : List ℕ) (r : Step) (w : List ℕ) → (r, w) ≡ startOf body ws s → Indexed x m (s .filled) → IndexedNext x m (s .filled) r
-start-indexed body ws s x m r w e i = let d : startOf body ws s .0 ≡ r = ap (λ (y : Step × List ℕ). y .0) (sym e) in rw d at (start-fills body ws s x m i)
+pub start-indexed : (body ws : List ℕ) (s : Reader) (x m : List ℕ) (r : Stepped) (w : List ℕ) → (r, w) ≡ startOf body ws s → Indexed x m (s .filled) → IndexedNext x m (s .filled) r
+start-indexed body ws s x m r w e i = let d : startOf body ws s .0 ≡ r = ap (λ (y : Stepped × List ℕ). y .0) (sym e) in rw d at (start-fills body ws s x m i)
 
-pub text-indexed : (body : List ℕ) (b : List State) (ws : List ℕ) (s : Reader) (x m : List ℕ) (r : Step) (w : List ℕ) → (r, w) ≡ textOf body b ws s →
+pub text-indexed : (body : List ℕ) (b : List State) (ws : List ℕ) (s : Reader) (x m : List ℕ) (r : Stepped) (w : List ℕ) → (r, w) ≡ textOf body b ws s →
     Indexed x m (s .filled) → IndexedNext x m (s .filled) r
-text-indexed body b ws s x m r w e i = let d : textOf body b ws s .0 ≡ r = ap (λ (y : Step × List ℕ). y .0) (sym e) in rw d at (text-fills body b ws s x m i)
+text-indexed body b ws s x m r w e i = let d : textOf body b ws s .0 ≡ r = ap (λ (y : Stepped × List ℕ). y .0) (sym e) in rw d at (text-fills body b ws s x m i)

@@ -19,8 +19,7 @@ use Rattle.memory_ask.specs.declared.Counts.{Counts}
 use Rattle.memory_ask.specs.Ask.{keptIn}
 use Rattle.memory_index.specs.Index.{Indexed}
 use Rattle.message_events.specs.declared.Reader.{Reader}
-use Rattle.message_events.specs.declared.Step.{Step}
-use Rattle.message_events.specs.declared.Step.the-variants.{Next, Refused}
+use Rattle.message_events.specs.Meant.{Stepped, goesOn, refusedAt}
 use Rattle.book_plan.specs.Plan.{Planned}
 
 abbrev pub labelIn : List ℕ → ℕ → ℕ
@@ -51,37 +50,37 @@ past body s n = ltb (length body - s .place) n
 unfoldable pub childOpened : List ℕ → ℕ → ℕ → ℕ → List ℕ
 childOpened ws d stage x = withLevel (withLevel ws d (staged (levelAt ws d) (stageAfter (attribute x) stage))) (d + 1) (opened x)
 
-unfoldable pub startBy : ℕ → ℕ → List ℕ → Reader → Step × List ℕ
+unfoldable pub startBy : ℕ → ℕ → List ℕ → Reader → Stepped × List ℕ
 startBy zero x ws s = (
-  Next (record { place = s .place + 3; depth = s .depth + 1; asked = s .asked; anew = s .anew; filled = s .filled }),
+  goesOn (record { place = s .place + 3; depth = s .depth + 1; asked = s .asked; anew = s .anew; filled = s .filled }),
   childOpened ws (s .depth) (stageIn ws (s .depth)) x,
 )
-startBy (suc e) x ws s = (Refused (suc e) (s .place), ws)
+startBy (suc e) x ws s = (refusedAt (suc e) (s .place), ws)
 
-unfoldable pub startFor : ℕ → List ℕ → Reader → Step × List ℕ
+unfoldable pub startFor : ℕ → List ℕ → Reader → Stepped × List ℕ
 startFor x ws s = startBy (startRefusal (s .depth) (labelIn ws (s .depth)) (stageIn ws (s .depth)) x) x ws s
 
-unfoldable pub startOf : List ℕ → List ℕ → Reader → Step × List ℕ
-startOf body ws s = pick (past body s 3) (Refused 22 (s .place), ws) (startFor (le2 body (s .place + 1)) ws s)
+unfoldable pub startOf : List ℕ → List ℕ → Reader → Stepped × List ℕ
+startOf body ws s = pick (past body s 3) (refusedAt 22 (s .place), ws) (startFor (le2 body (s .place + 1)) ws s)
 
 -- ── text ──
 -- a value taken up by level d: refused where it is out of range, or else its LEAF states joined
 unfoldable pub heldBy : Value → List State → List ℕ → ℕ → Bool × List ℕ
 heldBy v b ws d = pick (isOut v) (false, ws) (true, withLevel ws d (staged (joined (levelAt ws d) (leavesOf b v)) 2))
 
-abbrev pub textStep : Reader → ℕ → Bool → Step
-textStep s k true = Next (record { place = s .place + (k + 2); depth = s .depth; asked = s .asked; anew = s .anew; filled = s .filled })
-textStep s k false = Refused 27 (s .place)
+abbrev pub textStep : Reader → ℕ → Bool → Stepped
+textStep s k true = goesOn (record { place = s .place + (k + 2); depth = s .depth; asked = s .asked; anew = s .anew; filled = s .filled })
+textStep s k false = refusedAt 27 (s .place)
 
 -- a text of k bytes
-unfoldable pub textFor : ℕ → List ℕ → List State → List ℕ → Reader → Step × List ℕ
+unfoldable pub textFor : ℕ → List ℕ → List State → List ℕ → Reader → Stepped × List ℕ
 textFor k body b ws s =
-    pick (past body s (k + 2)) (Refused 22 (s .place), ws)
-    (pick (eqb (s .depth) 0 || not (eqb (stageIn ws (s .depth)) 0)) (Refused 26 (s .place), ws)
+    pick (past body s (k + 2)) (refusedAt 22 (s .place), ws)
+    (pick (eqb (s .depth) 0 || not (eqb (stageIn ws (s .depth)) 0)) (refusedAt 26 (s .place), ws)
     (let h : Bool × List ℕ = heldBy (textValue (part body (s .place + 2) k)) b ws (s .depth) in (textStep s k (h .0), h .1)))
 
-unfoldable pub textOf : List ℕ → List State → List ℕ → Reader → Step × List ℕ
-textOf body b ws s = pick (past body s 2) (Refused 22 (s .place), ws) (textFor (getD body (s .place + 1) 0) body b ws s)
+unfoldable pub textOf : List ℕ → List State → List ℕ → Reader → Stepped × List ℕ
+textOf body b ws s = pick (past body s 2) (refusedAt 22 (s .place), ws) (textFor (getD body (s .place + 1) 0) body b ws s)
 
 -- ── end ──
 -- the question of level d is asked, and its answer joined to the level under it
@@ -90,32 +89,32 @@ closeOf b ws d m c =
     let r : Reply = ask b (questionIn (part ws (10 * d) 9)) (keptIn m c) in
     (record { anew = r .kept .anew; filled = r .kept .filled }, withLevel ws (d - 1) (joined (levelAt ws (d - 1)) (r .answer)), r .kept .memory)
 
-abbrev pub endStep : Reader → Counts → Step
-endStep s c = Next (record { place = s .place + 3; depth = s .depth - 1; asked = s .asked + 1; anew = c .anew; filled = c .filled })
+abbrev pub endStep : Reader → Counts → Stepped
+endStep s c = goesOn (record { place = s .place + 3; depth = s .depth - 1; asked = s .asked + 1; anew = c .anew; filled = c .filled })
 
 abbrev pub countsOf : Reader → Counts
 countsOf s = record { anew = s .anew; filled = s .filled }
 
-unfoldable pub endOf : List ℕ → List State → List ℕ → List ℕ → Reader → Step × List ℕ × List ℕ
+unfoldable pub endOf : List ℕ → List State → List ℕ → List ℕ → Reader → Stepped × List ℕ × List ℕ
 endOf body b ws m s =
-    pick (past body s 3) (Refused 22 (s .place), ws, m)
-    (pick (eqb (s .depth) 0) (Refused 28 (s .place), ws, m)
+    pick (past body s 3) (refusedAt 22 (s .place), ws, m)
+    (pick (eqb (s .depth) 0) (refusedAt 28 (s .place), ws, m)
     (pick (eqb (le2 body (s .place + 1)) (labelIn ws (s .depth)))
     (let c : Counts × List ℕ × List ℕ = closeOf b ws (s .depth) m (countsOf s) in (endStep s (c .0), c .1, c .2))
-    (Refused 28 (s .place), ws, m)))
+    (refusedAt 28 (s .place), ws, m)))
 
 -- ── one event, by its kind byte ──
-abbrev pub beside : Step × List ℕ → List ℕ → Step × List ℕ × List ℕ
+abbrev pub beside : Stepped × List ℕ → List ℕ → Stepped × List ℕ × List ℕ
 beside r m = (r .0, r .1, m)
 
-unfoldable pub stepOf : List ℕ → List State → List ℕ → List ℕ → Reader → Step × List ℕ × List ℕ
+unfoldable pub stepOf : List ℕ → List State → List ℕ → List ℕ → Reader → Stepped × List ℕ × List ℕ
 stepOf body b ws m s =
     pick (eqb (getD body (s .place) 0) 1) (beside (startOf body ws s) m)
     (pick (eqb (getD body (s .place) 0) 2) (beside (textOf body b ws s) m)
     (pick (eqb (getD body (s .place) 0) 3) (endOf body b ws m s)
-    (Refused 21 (s .place), ws, m)))
+    (refusedAt 21 (s .place), ws, m)))
 
 -- the index stays that of the memory: of the slots filled after the event, or before it where it is refused
-abbrev pub IndexedNext : List ℕ → List ℕ → ℕ → Step → Type 0
-IndexedNext x m filled (Next t) = Indexed x m (t .filled)
-IndexedNext x m filled (Refused e p) = Indexed x m filled
+abbrev pub IndexedNext : List ℕ → List ℕ → ℕ → Stepped → Type 0
+IndexedNext x m filled (goesOn t) = Indexed x m (t .filled)
+IndexedNext x m filled (refusedAt e p) = Indexed x m filled

@@ -1,7 +1,7 @@
 // The events of a message. The reader's state goes in by value and comes back, one method for each event kind; the
 // open levels stand in the lent workspace, the questions go to the inner call. Its `pub` is for sister crates only:
 // message_reading reads whole messages.
-// Read specs/Step first: it says what each event does to all that is lent.
+// Read specs/Meant and specs/Step first: what an answer means, and what each event does to all that is lent.
 ghost use mathlib.Core.Path.{_≡_};
 ghost use Prim.Native.Nat.{_+_, _*_, _<_, _≤_};
 ghost use lib.ListN.{length};
@@ -11,6 +11,7 @@ ghost use Rattle.rules.specs.Value.{textValue};
 ghost use Rattle.rules.specs.Message.{startRefusal, stageAfter};
 ghost use Rattle.book_plan.specs.Plan.{Planned, statesIn};
 ghost use Rattle.memory_index.specs.Index.{Indexed};
+ghost use Rattle.message_events.specs.Meant.{meant};
 ghost use Rattle.message_events.specs.Step.{AtEvent, CanAsk, childOpened, startOf, heldBy, textFor, textOf};
 ghost use Rattle.message_events.specs.Step.{closeOf, endOf, stepOf, IndexedNext};
 use memory_ask::Counts;
@@ -113,7 +114,7 @@ impl Reader {
     // 1, label (2 bytes)
     pub fn start(self, body: &[u8], ws: &mut [u64]) -> Step
         requires { ⌜ AtEvent (now body) (now ws) self ⌝ }
-        ensures { λ r. ⌜ (r, left ws) ≡ startOf (was body) (was ws) self ⌝ }
+        ensures { λ r. ⌜ (meant r, left ws) ≡ startOf (was body) (was ws) self ⌝ }
     {
         let at = self.place;
         let depth = self.depth;
@@ -140,7 +141,7 @@ impl Reader {
     // A text of k bytes. For the proof's sake apart from `text`: it speaks of k, and not of the byte that holds k.
     fn text_for(self, body: &[u8], k: usize, plan: &[u64], n: usize, ws: &mut [u64]) -> Step
         requires { ⌜ AtEvent (now body) (now ws) self × (k < 256) × Planned (now plan) n ⌝ }
-        ensures { λ r. ⌜ (r, left ws) ≡ textFor k (was body) (statesIn (was plan) n) (was ws) self ⌝ }
+        ensures { λ r. ⌜ (meant r, left ws) ≡ textFor k (was body) (statesIn (was plan) n) (was ws) self ⌝ }
     {
         let at = self.place;
         let depth = self.depth;
@@ -167,7 +168,7 @@ impl Reader {
     // 2, length (1 byte), that many bytes
     pub fn text(self, body: &[u8], plan: &[u64], n: usize, ws: &mut [u64]) -> Step
         requires { ⌜ AtEvent (now body) (now ws) self × Planned (now plan) n ⌝ }
-        ensures { λ r. ⌜ (r, left ws) ≡ textOf (was body) (statesIn (was plan) n) (was ws) self ⌝ }
+        ensures { λ r. ⌜ (meant r, left ws) ≡ textOf (was body) (statesIn (was plan) n) (was ws) self ⌝ }
     {
         let at = self.place;
         if body.len() - at < 2 {
@@ -190,9 +191,9 @@ impl Reader {
         requires { ⌜ AtEvent (now body) (now ws) self ⌝ }
         requires { ⌜ CanAsk (now plan) n (now table) (now memory) self ⌝ }
         ensures { λ r. ⌜
-            (r, left ws, left memory) ≡ endOf (was body) (statesIn (was plan) n) (was ws) (was memory) self
+            (meant r, left ws, left memory) ≡ endOf (was body) (statesIn (was plan) n) (was ws) (was memory) self
             ⌝ }
-        ensures { λ r. ⌜ IndexedNext (left table) (left memory) (self .filled) r ⌝ }
+        ensures { λ r. ⌜ IndexedNext (left table) (left memory) (self .filled) (meant r) ⌝ }
     {
         let at = self.place;
         let depth = self.depth;
@@ -233,9 +234,9 @@ impl Reader {
         requires { ⌜ AtEvent (now body) (now ws) self ⌝ }
         requires { ⌜ CanAsk (now plan) n (now table) (now memory) self ⌝ }
         ensures { λ r. ⌜
-            (r, left ws, left memory) ≡ stepOf (was body) (statesIn (was plan) n) (was ws) (was memory) self
+            (meant r, left ws, left memory) ≡ stepOf (was body) (statesIn (was plan) n) (was ws) (was memory) self
             ⌝ }
-        ensures { λ r. ⌜ IndexedNext (left table) (left memory) (self .filled) r ⌝ }
+        ensures { λ r. ⌜ IndexedNext (left table) (left memory) (self .filled) (meant r) ⌝ }
     {
         let at = self.place;
         let kind = body[at];

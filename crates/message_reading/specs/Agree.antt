@@ -27,8 +27,7 @@ use Rattle.rules.specs.Pass.{Carried, asking}
 use Rattle.message_levels.specs.Level.{levelAt, withLevel, opened, staged, joined, opened-long, staged-long, joined-long, with-long, same-level, lower-level}
 use Rattle.memory_ask.specs.declared.Counts.{Counts}
 use Rattle.message_events.specs.declared.Reader.{Reader}
-use Rattle.message_events.specs.declared.Step.{Step}
-use Rattle.message_events.specs.declared.Step.the-variants.{Next as Onward, Refused}
+use Rattle.message_events.specs.Meant.{Stepped, goesOn, refusedAt}
 use Rattle.message_events.specs.Step.{labelIn, stageIn, past, childOpened, startBy, startFor, startOf, heldBy, textStep, textFor, textOf, closeOf, endStep, countsOf, endOf, beside, stepOf}
 use Rattle.message_events.specs.Laws.{start-room, end-none, end-other, end-own}
 
@@ -47,9 +46,9 @@ carriedBy s m = record { asked = s .asked; kept = record { memory = m; anew = s 
 unfoldable pub readingOf : List ℕ → List ℕ → Reader → Reading (List ℕ) Carried
 readingOf ws m s = record { place = s .place; top = levelIn (levelAt ws (s .depth)); under = levelsUnder ws (s .depth); state = carriedBy s m }
 
-abbrev pub nextOf : Step → List ℕ → List ℕ → Next (List ℕ) Carried
-nextOf (Onward t) ws m = on (readingOf ws m t)
-nextOf (Refused e p) ws m = refused e
+abbrev pub nextOf : Stepped → List ℕ → List ℕ → Next (List ℕ) Carried
+nextOf (goesOn t) ws m = on (readingOf ws m t)
+nextOf (refusedAt e p) ws m = refused e
 
 -- ── levels ──
 pub under-long : (ws : List ℕ) (d : ℕ) → length (levelsUnder ws d) ≡ d
@@ -219,7 +218,7 @@ module _ (b : List State) (ws m : List ℕ) (s : Reader) (deep : s .depth ≤ 64
     astray : Bool
     astray = eqb (s .depth) 0 || not (eqb (stageIn ws (s .depth)) 0)
 
-    for-astray : astray ≡ true → textFor k body b ws s ≡ (Refused 26 (s .place), ws)
+    for-astray : astray ≡ true → textFor k body b ws s ≡ (refusedAt 26 (s .place), ws)
     unfolding astray textFor pick
     for-astray e = simp (le-ltb _ _ whole, e)
 
@@ -241,7 +240,7 @@ module _ (b : List State) (ws m : List ℕ) (s : Reader) (deep : s .depth ≤ 64
     unfolding readingOf said after-text
     on-text = rw (under-long ws (s .depth), level-at ws (s .depth) 9 (omega arith)) refl
 
-    told : Step × List ℕ → Next (List ℕ) Carried
+    told : Stepped × List ℕ → Next (List ℕ) Carried
     told y = nextOf (y .0) (y .1) m
 
     text-by : (p : Bool) → astray ≡ p → (q : Bool) → isOut (textValue said) ≡ q → onText (asking b) (readingOf ws m s) (2 + k) said ≡ told (textFor k body b ws s)
@@ -304,7 +303,7 @@ module _ (b : List State) (ws m : List ℕ) (s : Reader) (deep : s .depth ≤ 64
         rw (under-split, ← question-same) (sym (shut-reading (r .answer) (r .kept .memory) (record { anew = r .kept .anew; filled = r .kept .filled })))
 
   module _ (body : List ℕ) (whole : 3 ≤ length body - s .place) where
-    ending : Step × List ℕ × List ℕ → Next (List ℕ) Carried
+    ending : Stepped × List ℕ × List ℕ → Next (List ℕ) Carried
     ending y = nextOf (y .0) (y .1) (y .2)
 
     on-end : (x : ℕ) → onEnd (asking b) (readingOf ws m s) 3 x

@@ -22,6 +22,7 @@ use Rattle.message_levels.specs.Level.{levelAt, withLevel, opened, opened-long,
 use Rattle.message_events.specs.declared.Reader.{Reader}
 use Rattle.message_events.specs.declared.Step.{Step}
 use Rattle.message_events.specs.declared.Step.the-variants.{Next as Onward, Refused}
+use Rattle.message_events.specs.Meant.{Stepped, goesOn, refusedAt, meant}
 use Rattle.message_events.specs.Step.{stageIn, stepOf, IndexedNext}
 use Rattle.memory_index.specs.Index.{Indexed}
 use Rattle.message_reading.specs.declared.Ended.{Ended}
@@ -96,16 +97,16 @@ going-none body b ws m s h k l =
     record { within = h; from = omega arith; deep = k; room = l; long = refl; past = refl; asked = omega arith; anew = omega arith; same = refl }
 
 module _ (body : List ℕ) (b : List State) (ws₀ m₀ : List ℕ) (s₀ : Reader) (ws m : List ℕ) (s : Reader) (g : Going body b ws₀ m₀ s₀ ws m s) where
-  turned : s .place < length body → (y : Step) (w v : List ℕ) → (y, w, v) ≡ stepOf body b ws m s → Turn body b ws m s (g .deep) (g .room) y w v
+  turned : s .place < length body → (y : Stepped) (w v : List ℕ) → (y, w, v) ≡ stepOf body b ws m s → Turn body b ws m s (g .deep) (g .room) y w v
   turned h y w v e =
-      subst (λ (z : Step × List ℕ × List ℕ). Turn body b ws m s (g .deep) (g .room) (z .0) (z .1) (z .2)) (sym e) (step-turn body b ws m s (g .deep) (g .room) h)
+      subst (λ (z : Stepped × List ℕ × List ℕ). Turn body b ws m s (g .deep) (g .room) (z .0) (z .1) (z .2)) (sym e) (step-turn body b ws m s (g .deep) (g .room) h)
 
-  onward : s .place < length body → (y : Step) (w v : List ℕ) → (y, w, v) ≡ stepOf body b ws m s → (t : Reader) → y ≡ Onward t → Turn body b ws m s (g .deep) (g .room) (Onward t) w v
-  onward h y w v e t d = subst (λ (z : Step). Turn body b ws m s (g .deep) (g .room) z w v) d (turned h y w v e)
+  onward : s .place < length body → (y : Stepped) (w v : List ℕ) → (y, w, v) ≡ stepOf body b ws m s → (t : Reader) → y ≡ goesOn t → Turn body b ws m s (g .deep) (g .room) (goesOn t) w v
+  onward h y w v e t d = subst (λ (z : Stepped). Turn body b ws m s (g .deep) (g .room) z w v) d (turned h y w v e)
 
-  going-next : s .place < length body → (y : Step) (w v : List ℕ) → (y, w, v) ≡ stepOf body b ws m s → (t : Reader) → y ≡ Onward t → Going body b ws₀ m₀ s₀ w v t
+  going-next : s .place < length body → (y : Stepped) (w v : List ℕ) → (y, w, v) ≡ stepOf body b ws m s → (t : Reader) → y ≡ goesOn t → Going body b ws₀ m₀ s₀ w v t
   going-next h y w v e t d =
-      let z : Turn body b ws m s (g .deep) (g .room) (Onward t) w v = onward h y w v e t d in
+      let z : Turn body b ws m s (g .deep) (g .room) (goesOn t) w v = onward h y w v e t d in
       record {
         within = z .1;
         from = omega (arith, z .0, g .from);
@@ -118,13 +119,13 @@ module _ (body : List ℕ) (b : List State) (ws₀ m₀ : List ℕ) (s₀ : Read
         same = sym (z .7) ∙ g .same;
       }
 
-  going-less : s .place < length body → (y : Step) (w v : List ℕ) → (y, w, v) ≡ stepOf body b ws m s → (t : Reader) → y ≡ Onward t → length body - t .place < length body - s .place
-  going-less h y w v e t d = let z : Turn body b ws m s (g .deep) (g .room) (Onward t) w v = onward h y w v e t d in omega (arith, z .0, z .1)
+  going-less : s .place < length body → (y : Stepped) (w v : List ℕ) → (y, w, v) ≡ stepOf body b ws m s → (t : Reader) → y ≡ goesOn t → length body - t .place < length body - s .place
+  going-less h y w v e t d = let z : Turn body b ws m s (g .deep) (g .room) (goesOn t) w v = onward h y w v e t d in omega (arith, z .0, z .1)
 
-  going-bad : s .place < length body → (y : Step) (w v : List ℕ) → (y, w, v) ≡ stepOf body b ws m s → (n p : ℕ) → y ≡ Refused n p →
+  going-bad : s .place < length body → (y : Stepped) (w v : List ℕ) → (y, w, v) ≡ stepOf body b ws m s → (n p : ℕ) → y ≡ refusedAt n p →
       ReadFrom body b ws₀ m₀ s₀ (record { refusal = n; place = p; asked = s .asked; anew = s .anew; filled = s .filled }) w v
   going-bad h y w v e n p d =
-      let z : Turn body b ws m s (g .deep) (g .room) (Refused n p) w v = subst (λ (z : Step). Turn body b ws m s (g .deep) (g .room) z w v) d (turned h y w v e) in
+      let z : Turn body b ws m s (g .deep) (g .room) (refusedAt n p) w v = subst (λ (z : Stepped). Turn body b ws m s (g .deep) (g .room) z w v) d (turned h y w v e) in
       let o : events (asking b) (drop (s₀ .place) body) 0 (readingOf ws₀ m₀ s₀) ≡ outcome (readingOf ws m s) n = sym (g .same) ∙ z .4 in
       record {
         says = rw o (record {
@@ -228,11 +229,11 @@ read-whole body b ws u m w v asked anew filled r h e f =
     opening t = unfold readingOf levelsUnder opened in (rw t refl)
 
 -- ── the index ──
-pub indexed-next : (x m : List ℕ) (filled : ℕ) (y : Step) (t : Reader) → IndexedNext x m filled y → y ≡ Onward t → Indexed x m (t .filled)
-indexed-next x m filled y t h e = subst (λ (z : Step). IndexedNext x m filled z) e h
+pub indexed-next : (x m : List ℕ) (filled : ℕ) (y : Stepped) (t : Reader) → IndexedNext x m filled y → y ≡ goesOn t → Indexed x m (t .filled)
+indexed-next x m filled y t h e = subst (λ (z : Stepped). IndexedNext x m filled z) e h
 
-pub indexed-bad : (x m : List ℕ) (filled : ℕ) (y : Step) (n p : ℕ) → IndexedNext x m filled y → y ≡ Refused n p → Indexed x m filled
-indexed-bad x m filled y n p h e = subst (λ (z : Step). IndexedNext x m filled z) e h
+pub indexed-bad : (x m : List ℕ) (filled : ℕ) (y : Step) (n p : ℕ) → IndexedNext x m filled (meant y) → y ≡ Refused n p → Indexed x m filled
+indexed-bad x m filled y n p h e = subst (λ (z : Stepped). IndexedNext x m filled z) (ap meant e) h
 
 pub indexed-end : (x m ws : List ℕ) (s : Reader) (n : ℕ) (r : Ended) → Indexed x m (s .filled) → r ≡ finished s n ws → Indexed x m (r .filled)
 indexed-end x m ws s n r h e = let f : r .filled ≡ s .filled = ap (λ (z : Ended). z .filled) e ∙ same in rw f h
@@ -266,11 +267,11 @@ module _ (body : List ℕ) (b : List State) (x₀ m₀ ws₀ : List ℕ) (s₀ :
     pub reading-anew : s .anew < 18446744073709551615
     reading-anew = omega (arith, g .going .anew, g .going .within, g .more .1)
 
-    module _ (inside : s .place < length body) (y : Step) (w v u : List ℕ) (told : (y, w, v) ≡ stepOf body b ws m s) (index : IndexedNext u v (s .filled) y) where
+    module _ (inside : s .place < length body) (y : Step) (w v u : List ℕ) (told : (meant y, w, v) ≡ stepOf body b ws m s) (index : IndexedNext u v (s .filled) (meant y)) where
       pub reading-next : (t : Reader) → y ≡ Onward t → length u ≡ length x → length v ≡ length m → ReadingOn body b x₀ m₀ ws₀ s₀ u v w t
       reading-next t e a c = record {
-        going = going-next body b ws₀ m₀ s₀ ws m s (g .going) inside y w v told t e;
-        indexed = indexed-next u v (s .filled) y t index e;
+        going = going-next body b ws₀ m₀ s₀ ws m s (g .going) inside (meant y) w v told t (ap meant e);
+        indexed = indexed-next u v (s .filled) (meant y) t index (ap meant e);
         longx = a ∙ g .longx;
         longm = c ∙ g .longm;
         more = g .more;
@@ -278,11 +279,11 @@ module _ (body : List ℕ) (b : List State) (x₀ m₀ ws₀ : List ℕ) (s₀ :
 
       pub reading-bad : (n p : ℕ) → y ≡ Refused n p →
           ReadFrom body b ws₀ m₀ s₀ (record { refusal = n; place = p; asked = s .asked; anew = s .anew; filled = s .filled }) w v
-      reading-bad n p e = going-bad body b ws₀ m₀ s₀ ws m s (g .going) inside y w v told n p e
+      reading-bad n p e = going-bad body b ws₀ m₀ s₀ ws m s (g .going) inside (meant y) w v told n p (ap meant e)
 
-    pub reading-less : s .place < length body → (y : Step) (w v : List ℕ) → (y, w, v) ≡ stepOf body b ws m s → (t : Reader) → y ≡ Onward t →
+    pub reading-less : s .place < length body → (y : Step) (w v : List ℕ) → (meant y, w, v) ≡ stepOf body b ws m s → (t : Reader) → y ≡ Onward t →
         length body - t .place < length body - s .place
-    reading-less h y w v e t d = going-less body b ws₀ m₀ s₀ ws m s (g .going) h y w v e t d
+    reading-less h y w v e t d = going-less body b ws₀ m₀ s₀ ws m s (g .going) h (meant y) w v e t (ap meant d)
 
     pub reading-end : length body ≤ s .place → (r : Ended) → r ≡ finished s (length body) ws → ReadFrom body b ws₀ m₀ s₀ r ws m
     reading-end h r e = going-end body b ws₀ m₀ s₀ ws m s (g .going) h r e

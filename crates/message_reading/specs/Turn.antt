@@ -26,8 +26,7 @@ use Rattle.message_levels.specs.Level.{levelAt, withLevel, opened, staged, join
 use Rattle.memory_ask.specs.declared.Counts.{Counts}
 use Rattle.memory_ask.specs.Laws.{ask-anew}
 use Rattle.message_events.specs.declared.Reader.{Reader}
-use Rattle.message_events.specs.declared.Step.{Step}
-use Rattle.message_events.specs.declared.Step.the-variants.{Next as Onward, Refused}
+use Rattle.message_events.specs.Meant.{Stepped, goesOn, refusedAt}
 use Rattle.message_events.specs.Step.{labelIn, stageIn, past, childOpened, startBy, startFor, startOf, heldBy, textStep, textFor, textOf, closeOf, endStep, countsOf, endOf, beside, stepOf}
 use Rattle.message_events.specs.Laws.{start-room, start-short, text-short, text-cut, end-short, step-start, step-text, step-end, step-none}
 use Rattle.message_reading.specs.Agree.{readingOf, nextOf, labelled-there, labelled-cut, texted-none, texted-there, texted-cut, start-agrees, text-agrees, end-agrees}
@@ -42,16 +41,16 @@ pub record Moved (body ws : List ℕ) (s : Reader) (size : ℕ) (t : Reader) (w 
   pub asked : t .asked ≤ s .asked + 1
   pub anew : t .anew ≤ s .anew + 1
 
-abbrev pub Sound : List ℕ → List ℕ → List ℕ → Reader → ℕ → Step → List ℕ → List ℕ → Type 0
-Sound body ws m s size (Onward t) w v = Moved body ws s size t w
-Sound body ws m s size (Refused e p) w v = (p ≡ s .place) × (w ≡ ws) × (v ≡ m)
+abbrev pub Sound : List ℕ → List ℕ → List ℕ → Reader → ℕ → Stepped → List ℕ → List ℕ → Type 0
+Sound body ws m s size (goesOn t) w v = Moved body ws s size t w
+Sound body ws m s size (refusedAt e p) w v = (p ≡ s .place) × (w ≡ ws) × (v ≡ m)
 
 -- ── each event ──
 module _ (body ws m : List ℕ) (s : Reader) (deep : s .depth ≤ 64) (room : 650 ≤ length ws) where
-  abbrev Ok : ℕ → Step × List ℕ → Type 0
+  abbrev Ok : ℕ → Stepped × List ℕ → Type 0
   Ok size y = Sound body ws m s size (y .0) (y .1) m
 
-  stays : (e size : ℕ) → Ok size (Refused e (s .place), ws)
+  stays : (e size : ℕ) → Ok size (refusedAt e (s .place), ws)
   stays e size = (refl, refl, refl)
 
   ten : (d : ℕ) → d ≤ 64 → length (levelAt ws d) ≡ 10
@@ -104,7 +103,7 @@ module _ (body ws m : List ℕ) (s : Reader) (deep : s .depth ≤ 64) (room : 65
       })))
 
 module _ (body : List ℕ) (b : List State) (ws m : List ℕ) (s : Reader) (deep : s .depth ≤ 64) (room : 650 ≤ length ws) where
-  abbrev Fine : ℕ → Step × List ℕ × List ℕ → Type 0
+  abbrev Fine : ℕ → Stepped × List ℕ × List ℕ → Type 0
   Fine size y = Sound body ws m s size (y .0) (y .1) (y .2)
 
   end-sound : 3 ≤ length body - s .place → Fine 3 (endOf body b ws m s)
@@ -131,12 +130,12 @@ module _ (body : List ℕ) (b : List State) (ws m : List ℕ) (s : Reader) (deep
       }) (λ g. (refl, refl, refl))))
 
   -- ── the turn ──
-  abbrev pub Turn : Step → List ℕ → List ℕ → Type 0
-  Turn (Onward t) w v =
+  abbrev pub Turn : Stepped → List ℕ → List ℕ → Type 0
+  Turn (goesOn t) w v =
       (s .place < t .place) × (t .place ≤ length body) × (t .depth ≤ 64) × (length w ≡ length ws) × (drop 650 w ≡ drop 650 ws)
       × (t .asked ≤ s .asked + 1) × (t .anew ≤ s .anew + 1)
       × (events (asking b) (drop (s .place) body) 0 (readingOf ws m s) ≡ events (asking b) (drop (t .place) body) 0 (readingOf w v t))
-  Turn (Refused e p) w v =
+  Turn (refusedAt e p) w v =
       (0 < e) × (p ≡ s .place) × (w ≡ ws) × (v ≡ m) × (events (asking b) (drop (s .place) body) 0 (readingOf ws m s) ≡ outcome (readingOf ws m s) e)
 
   module _ (inside : s .place < length body) where
@@ -151,14 +150,14 @@ module _ (body : List ℕ) (b : List State) (ws m : List ℕ) (s : Reader) (deep
     split = drop-cons body (s .place) 0 inside
 
     -- no whole event is there
-    turn-bad : (e : ℕ) → 0 < e → firstEvent kind rest ≡ bad e → Turn (Refused e (s .place)) ws m
+    turn-bad : (e : ℕ) → 0 < e → firstEvent kind rest ≡ bad e → Turn (refusedAt e (s .place)) ws m
     turn-bad e z f = (z, refl, refl, refl, ap (λ l. events (asking b) l 0 (readingOf ws m s)) split ∙ events-broken (asking b) kind rest (readingOf ws m s) e f)
 
     -- an event is there
-    turn-got : (ev : Event) (size : ℕ) → 0 < size → firstEvent kind rest ≡ got ev size → (y : Step) (w v : List ℕ) →
+    turn-got : (ev : Event) (size : ℕ) → 0 < size → firstEvent kind rest ≡ got ev size → (y : Stepped) (w v : List ℕ) →
         onEvent (asking b) (readingOf ws m s) size ev ≡ nextOf y w v → Sound body ws m s size y w v → Turn y w v
     unfolding rest
-    turn-got ev size z f (Onward t) w v g h =
+    turn-got ev size z f (goesOn t) w v g h =
         let at : suc (s .place) + (size - 1) ≡ t .place = omega (arith, h .place) in (
           omega (arith, h .place),
           h .within,
@@ -171,7 +170,7 @@ module _ (body : List ℕ) (b : List State) (ws m : List ℕ) (s : Reader) (deep
               ∙ events-skip (asking b) (size - 1) rest (readingOf w v t)
               ∙ ap (λ l. events (asking b) l 0 (readingOf w v t)) (drop-drop (size - 1) (suc (s .place)) body ∙ ap (λ (k : ℕ). drop k body) at),
         )
-    turn-got ev size z f (Refused e p) w v g h = (
+    turn-got ev size z f (refusedAt e p) w v g h = (
       event-refused (asking b) ev size e (readingOf ws m s) g,
       h .0,
       h .1,
@@ -179,14 +178,14 @@ module _ (body : List ℕ) (b : List State) (ws m : List ℕ) (s : Reader) (deep
       ap (λ l. events (asking b) l 0 (readingOf ws m s)) split ∙ refused-event (asking b) kind rest (readingOf ws m s) ev size e f g,
     )
 
-    abbrev Turned : Step × List ℕ × List ℕ → Type 0
+    abbrev Turned : Stepped × List ℕ × List ℕ → Type 0
     Turned y = Turn (y .0) (y .1) (y .2)
 
     start-turn : kind ≡ 1 → Turned (beside (startOf body ws s) m)
     unfolding startOf firstEvent rest
     start-turn e =
         let first : firstEvent kind rest ≡ labelled start rest = rw e refl in
-        pick-cases (λ (y : Step × List ℕ). Turned (beside y m)) (past body s 3)
+        pick-cases (λ (y : Stepped × List ℕ). Turned (beside y m)) (past body s 3)
         (λ f. turn-bad 22 (omega arith) (first ∙ labelled-cut start body (s .place) (ltb-true _ _ f)))
         (λ f.
         let whole : 3 ≤ length body - s .place = ltb-false _ _ f in
@@ -199,15 +198,15 @@ module _ (body : List ℕ) (b : List State) (ws m : List ℕ) (s : Reader) (deep
     text-turn e =
         let first : firstEvent kind rest ≡ texted rest = rw e refl in
         let k : ℕ = getD body (s .place + 1) 0 in
-        pick-cases (λ (y : Step × List ℕ). Turned (beside y m)) (past body s 2)
+        pick-cases (λ (y : Stepped × List ℕ). Turned (beside y m)) (past body s 2)
         (λ f. turn-bad 22 (omega arith) (first ∙ texted-none body (s .place) (ltb-true _ _ f)))
         (λ f.
         let room2 : 2 ≤ length body - s .place = ltb-false _ _ f in
         elim (decLt (length body - s .place) (k + 2)) [
           | yes h ↦
-              let cut : (Refused 22 (s .place), ws) ≡ textFor k body b ws s = text-cut body b ws s k h in
-              let done : Turned (beside (Refused 22 (s .place), ws) m) = turn-bad 22 (omega arith) (first ∙ texted-cut body (s .place) room2 h) in
-              subst (λ (y : Step × List ℕ). Turned (beside y m)) cut done
+              let cut : (refusedAt 22 (s .place), ws) ≡ textFor k body b ws s = text-cut body b ws s k h in
+              let done : Turned (beside (refusedAt 22 (s .place), ws) m) = turn-bad 22 (omega arith) (first ∙ texted-cut body (s .place) room2 h) in
+              subst (λ (y : Stepped × List ℕ). Turned (beside y m)) cut done
           | no h ↦
               let whole : k + 2 ≤ length body - s .place = omega arith in
               turn-got (text (part body (s .place + 2) k)) (2 + k) (omega arith) (first ∙ texted-there body (s .place) room2 whole) (textFor k body b ws s .0) (textFor k body b ws s .1) m

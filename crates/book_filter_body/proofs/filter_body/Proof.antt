@@ -1,5 +1,5 @@
 use borrow.Author.Needs.{needs}
-use Rattle.book_filter_body.specs.Found.{part-inside, body-is}
+use Rattle.book_filter_body.specs.Found.{part-inside, body-handed}
 use Rattle.book_filter_body.proofs.filter_body.Statement.{statement}
 use Rattle.book_filter_body.proofs.filter_body.Tie as tie
 
@@ -12,4 +12,4 @@ filter-body-spec =
     (λ c. search needs)  -- sub-result
     (λ c. search needs)  -- part-result-start
     (λ c. search (part-inside, needs))  -- part-result-end
-    (λ c. search (body-is, needs)))  -- returns
+    (λ c. body-handed _ _ (c .before .part-of .ensures) _ (c .before .before .before .args .book .ptr .1)))  -- returns

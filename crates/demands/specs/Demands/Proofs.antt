@@ -27,7 +27,12 @@ use Rattle.rules.specs.Match.{matches, filtersWhere, acceptedFilters, MatchRule
 use Rattle.rules.specs.Sets.{Question, bitAt}
 use Rattle.rules.specs.Memory.{nine, slotQuestion, slotAnswer, slotsLent, Kept, firstSlot, ask, FirstToAsk, slotsWritten}
 use Rattle.rules.specs.Asked.{readTree, dayQuestions, firstDifferent, notKept, messageRow, HeldRight, dayNodes, treeRows}
-use Rattle.rules.specs.Written.{written, messageShaped}
+use Rattle.rules.specs.Message.{Event}
+use Rattle.rules.specs.Message.Place.{refused-at, refused-where}
+use Rattle.rules.specs.MessageTable.{rootAlone, opensAfter, messageRows}
+use Rattle.rules.specs.MessageTable.Refused.{refused-row, read-place}
+use Rattle.rules.specs.Written.{written, messageShaped, writtenEvents, AreBytes, IsMessage, Begins, Stuck}
+use Rattle.lists.specs.Checks.{FirstToFail}
 use Rattle.rules.specs.Run.{Lent, Returned, runRefusal, refusedRun, passDay, runBy, run, runChecks, withMemory}
 use Rattle.rules.specs.Run.Laws.{refused-exactly, run-refused}
 use Rattle.rules.specs.Promise.{RunPromise}
@@ -94,6 +99,29 @@ module _ (l : Lent) (g : Returned) (p : RunPromise l g) where
 
     pub given-refusal : (k : ℕ) → k < messageCount (l .day) → getD (g .answers) (3 * k) 0 ≡ readTree (messageBody (l .day) k) .refusal
     given-refusal k h = rw add-zero at (given-number k 0 h (omega arith))
+
+    pub given-place : (k : ℕ) → k < messageCount (l .day) → getD (g .answers) (3 * k + 1) 0 ≡ readTree (messageBody (l .day) k) .place
+    given-place k h = given-number k 1 h (omega arith)
+
+    -- a refused message: its number, its place, and that it is none
+    module _ (k : ℕ) (h : k < messageCount (l .day)) (w : AreBytes (l .day)) where
+      pub given-row-number : (evs : List Event) (rest : List ℕ) → messageBody (l .day) k ≡ writtenEvents evs ++ rest → (n : ℕ) → 0 < n →
+          ((getD (g .answers) (3 * k) 0 ≡ n) × (getD (g .answers) (3 * k + 1) 0 ≡ length (writtenEvents evs)))
+          ↔ (Begins (writtenEvents evs) × FirstToFail (messageRows (opensAfter rootAlone evs) rest) n)
+      given-row-number evs rest b n z =
+          rw (given-refusal k h, given-place k h, b) (refused-row evs rest (rw b at (bytes-part (l .day) k w)) n z)
+
+      pub given-there : (evs : List Event) (rest : List ℕ) → messageBody (l .day) k ≡ writtenEvents evs ++ rest →
+          ((0 < getD (g .answers) (3 * k) 0) × (getD (g .answers) (3 * k + 1) 0 ≡ length (writtenEvents evs)))
+          ↔ (Begins (writtenEvents evs) × (IsMessage (messageBody (l .day) k) → ⊥) × Stuck evs rest)
+      given-there evs rest b = rw (given-refusal k h, given-place k h, b) (refused-at evs rest (rw b at (bytes-part (l .day) k w)))
+
+      pub given-where : 0 < getD (g .answers) (3 * k) 0 →
+          (evs : List Event) × (rest : List ℕ) × (messageBody (l .day) k ≡ writtenEvents evs ++ rest) × (getD (g .answers) (3 * k + 1) 0 ≡ length (writtenEvents evs))
+      given-where n = rw (given-place k h) (refused-where (messageBody (l .day) k) (bytes-part (l .day) k w) (rw (given-refusal k h) at n))
+
+    pub given-read-place : (k : ℕ) → k < messageCount (l .day) → getD (g .answers) (3 * k) 0 ≡ 0 → getD (g .answers) (3 * k + 1) 0 ≡ 0
+    given-read-place k h e = given-place k h ∙ read-place (messageBody (l .day) k) (sym (given-refusal k h) ∙ e)
 
     pub given-refused : (k : ℕ) → k < messageCount (l .day) → (getD (g .answers) (3 * k) 0 ≡ 0 → ⊥) → getD (g .answers) (3 * k + 2) 0 ≡ 0
     given-refused k h ne = given-number k 2 h (omega arith) ∙ pick-false _ _ _ (ne-eqb _ 0 (λ r. ne (given-refusal k h ∙ r)))

@@ -16,15 +16,10 @@ use Rattle.lists.specs.Parts.{part, patch}
 use Rattle.lists.specs.Same.{sameList}
 use Rattle.rules.specs.State.{State}
 use Rattle.rules.specs.Sets.{Question, workOut}
-use Rattle.rules.specs.Memory.{nine, slotQuestion, slotAnswer, slotsLent, Kept, firstSlot, Reply, ask, FirstToAsk, slotOf, slotsWritten}
+use Rattle.rules.specs.Memory.{nine, slotQuestion, slotAnswer, slotsLent, Kept, firstSlot, Reply, ask, FirstToAsk, slotOf, slotsWritten, askAll}
 use Rattle.rules.specs.Asked.{sameQuestion, isAmong, without, different, firstDifferent, notKept}
 use Rattle.rules.specs.Asked.Different.{among-at, among-none, nine-eq, keptWith, first-none, first-few, first-snoc}
 use Rattle.rules.specs.Memory.Laws.{slot-some, slot-none, kept-answer, fresh-kept, fresh-full, lent-fits, lent-same, workOut-long, nine-long, slot-long, Onward, onward-same, onward-then, ask-onward}
-
--- what is kept after asking each in order
-unfoldable pub askAll : List State → List Question → Kept → Kept
-askAll b [] k = k
-askAll b (q ∷ qs) k = askAll b qs ((ask b q k) .kept)
 
 pub askAll-append : (b : List State) (qs rs : List Question) (k : Kept) → askAll b (qs ++ rs) k ≡ askAll b rs (askAll b qs k)
 unfolding askAll

@@ -83,7 +83,7 @@ pub first-kind : (c : ℕ) (cs : List ℕ) → (c ≡ 1 → ⊥) → (c ≡ 2 �
 unfolding firstEvent
 first-kind c cs p q r = rw (ne-eqb c 1 p, ne-eqb c 2 q, ne-eqb c 3 r, firstEvent)
 
-Splits : ℕ → List ℕ → First → Type 0
+unfoldable pub Splits : ℕ → List ℕ → First → Type 0
 Splits c cs (bad e) = 0 < e
 Splits c cs (got ev size) = (c ∷ cs ≡ writtenEvent ev ++ drop (size - 1) cs) × (size ≡ sizeOf ev) × (eventFits ev ≡ true)
 
@@ -113,7 +113,7 @@ text-splits (n ∷ rest) h = go (leb n (length rest)) refl
         (rw (l, m) (ap (λ s. 2 ∷ n ∷ s) (sym (take-append-drop n rest))), rw l (omega arith), rw l (lt-ltb n 256 p))
     go false e = omega arith
 
-first-splits : (c : ℕ) (cs : List ℕ) → AreBytes cs → Splits c cs (firstEvent c cs)
+pub first-splits : (c : ℕ) (cs : List ℕ) → AreBytes cs → Splits c cs (firstEvent c cs)
 unfolding Splits firstEvent
 first-splits c cs h = go (eqb c 1) (eqb c 2) (eqb c 3) refl refl refl
   where

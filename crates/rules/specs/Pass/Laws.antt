@@ -14,14 +14,14 @@ use Rattle.rules.specs.Tree.{Content, Node}
 use Rattle.rules.specs.Match.{filtersWhere, acceptedFilters}
 use Rattle.rules.specs.Message.{message}
 use Rattle.rules.specs.Sets.{either, leavesOf, completed, Question}
-use Rattle.rules.specs.Memory.{ask}
+use Rattle.rules.specs.Memory.{ask, askAll}
 use Rattle.rules.specs.Pass.{Carried, askAndJoin, asking, passMessage, answerRow}
 use Rattle.rules.specs.Asked.{shutNode, growing, readTree, questionOf, rightAnswer, treeRow, messageRow}
 use Rattle.rules.specs.Sets.Laws.{setOf-long}
 use Rattle.rules.specs.Match.Laws.{askedSet, completed-node, work-is-right}
 use Rattle.rules.specs.Asked.Laws.{asked-empty, asked-said, asked-shut}
 use Rattle.rules.specs.Message.Simulate.{mapOutcome, Alike, message-map}
-use Rattle.rules.specs.Memory.FirstC.{askAll, askAll-snoc, Eight, atStart, reply-is}
+use Rattle.rules.specs.Memory.FirstC.{askAll-snoc, Eight, atStart, reply-is}
 
 -- ── the questions of some nodes ──
 abbrev pub nodeQuestions : List State → List Node → List Question

@@ -19,14 +19,14 @@ use Rattle.rules.specs.Book.{filterCount, bodySize, statesBefore, badSiz
 use Rattle.rules.specs.DayFile.{messageCount, messageBody}
 use Rattle.rules.specs.Tree.{Node}
 use Rattle.rules.specs.Sets.{Question, workOut}
-use Rattle.rules.specs.Memory.{nine, slotQuestion, slotAnswer, slotsLent, slotsWritten}
+use Rattle.rules.specs.Memory.{nine, slotQuestion, slotAnswer, slotsLent, slotsWritten, askAll}
 use Rattle.rules.specs.Pass.{Passed, passMessage, answerRow, passTo}
 use Rattle.rules.specs.Run.{Lent, Returned, runRefusal, passDay, atFirst, run, withMemory}
 use Rattle.rules.specs.Asked.{readTree, questionOf, rightAnswer, messageQuestions, questionsTo, dayQuestions, sameQuestion, isAmong, different, firstDifferent, notKept, messageRow, nodesTo, HeldRight, dayNodes, treeRow, treeRows}
 use Rattle.rules.specs.Run.Laws.{accepted-exactly, run-accepted, run-refused}
 use Rattle.rules.specs.Match.Laws.{work-is-right}
 use Rattle.rules.specs.Asked.Different.{same-eq, among-at, members}
-use Rattle.rules.specs.Memory.FirstC.{askAll, Eight, eight-first, written-question, written-answer, kept-is}
+use Rattle.rules.specs.Memory.FirstC.{Eight, eight-first, written-question, written-answer, kept-is}
 use Rattle.rules.specs.Pass.Laws.{nodeQuestions, nodes-eight, after, pass-tree, row-is}
 
 -- ── an accepted book has at most 512 states ──

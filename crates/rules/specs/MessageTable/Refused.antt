@@ -1,0 +1,159 @@
+-- A message is refused at a place by the number that the table gives there, and by no other.
+use mathlib.Core.Path.{_≡_, refl, sym, _∙_, ap}
+use mathlib.Core.List.{List, [], _∷_, _++_}
+use mathlib.Core.Logic.{_↔_}
+use Prim.Native.Nat.{ℕ, zero, suc, _-_, _<_}
+use native.Mathlib.Omega.{arith}
+use lib.ListN.{length, drop}
+use Rattle.lists.specs.Checks.{firstOf, FirstToFail}
+use Rattle.lists.specs.Checks.Laws.{Numbered, given-first, first-given}
+use Rattle.rules.specs.Tree.{Content, Node}
+use Rattle.rules.specs.Message.{Event, start, text, end, First, bad, got, firstEvent, Reading, Keeper, Next, refused, on, outcome, unless, onEvent, begin, events, message}
+use Rattle.rules.specs.Message.Events.{sizeOf, Follows, Splits, first-splits, events-ended, events-broken, events-follow}
+use Rattle.rules.specs.Message.Open.{Sound, event-keeps, follow-keeps, begin-sound}
+use Rattle.rules.specs.Message.Place.{refused-at}
+use Rattle.rules.specs.Run.Laws.{bad-event, refused-event, accepted-event}
+use Rattle.rules.specs.Asked.{growing, readTree}
+use Rattle.rules.specs.Written.{writtenEvent, writtenEvents, AreBytes, Begins, Stuck}
+use Rattle.rules.specs.Written.Laws.{Standing}
+use Rattle.rules.specs.Written.Beginnings.{through, short, message-read, sound-begins, after-bytes, passed-or-short}
+use Rattle.rules.specs.MessageTable.{Opens, rootAlone, opensAfter, messageRows}
+use Rattle.rules.specs.MessageTable.Laws.{Stands, eventNumber, numberFirst, numberAt, number-is, stands-begin, stands-follow}
+
+-- ── the reader halts with the number at its place ──
+module _ {P S : Type 0} (how : Keeper P S) (r : Reading P S) where
+  event-barred : (ev : Event) (size e : ℕ) → eventNumber r ev ≡ suc e → onEvent how r size ev ≡ refused (suc e)
+  event-barred (start x) size e h = rw h refl
+  event-barred (text s) size e h = rw h refl
+  event-barred (end x) size e h = rw h refl
+
+  unless-none : (n : ℕ) (q : Reading P S) → n ≡ 0 → (r′ : Reading P S) × (unless n q ≡ on r′)
+  unless-none n q h = (q, rw h refl)
+
+  event-passed : (ev : Event) (size : ℕ) → eventNumber r ev ≡ 0 → (r′ : Reading P S) × (onEvent how r size ev ≡ on r′)
+  event-passed (start x) size h = unless-none _ _ h
+  event-passed (text s) size h = unless-none _ _ h
+  event-passed (end x) size h = unless-none _ _ h
+
+  number-halts : (rest : List ℕ) (e : ℕ) → numberAt r rest ≡ suc e → events how rest 0 r ≡ outcome r (suc e)
+  number-halts [] e h = events-ended how r ∙ ap (outcome r) h
+  number-halts (c ∷ cs) e h = go (firstEvent c cs) refl h
+    where
+      go : (f : First) → firstEvent c cs ≡ f → numberFirst r f ≡ suc e → events how (c ∷ cs) 0 r ≡ outcome r (suc e)
+      go (bad n) d k = events-broken how c cs r n d ∙ ap (outcome r) k
+      go (got ev size) d k = refused-event how c cs r ev size (suc e) d (event-barred ev size e k)
+
+-- ── the number at a place of a message ──
+module _ (evs : List Event) (rest : List ℕ) (h : AreBytes (writtenEvents evs ++ rest)) where
+  abbrev body : List ℕ
+  body = writtenEvents evs ++ rest
+
+  abbrev table : ℕ
+  table = firstOf (messageRows (opensAfter rootAlone evs) rest)
+
+  numbered : Numbered 21 (messageRows (opensAfter rootAlone evs) rest)
+  numbered = (refl, (refl, (refl, (refl, (refl, (refl, (refl, (refl, (refl, tt)))))))))
+
+  module _ (last : Standing) (f : Follows growing (begin growing []) evs last) where
+    reads-on : readTree body ≡ events growing rest 0 last
+    unfolding readTree message
+    reads-on = events-follow growing evs rest (begin growing []) last f
+
+    sound : Sound last (writtenEvents evs)
+    sound = follow-keeps evs (begin growing []) last [] begin-sound f
+
+    table-is : table ≡ numberAt last rest
+    table-is = number-is last (opensAfter rootAlone evs) (stands-follow growing evs (begin growing []) last rootAlone (stands-begin growing []) f) rest
+
+    -- where the table gives a number, the message is refused by it there
+    table-refuses : (e : ℕ) → table ≡ suc e → (readTree body .refusal ≡ suc e) × (readTree body .place ≡ length (writtenEvents evs))
+    table-refuses e t =
+        let o : readTree body ≡ outcome last (suc e) = reads-on ∙ number-halts growing last rest e (sym table-is ∙ t) in
+        (ap (λ x. x .refusal) o, ap (λ x. x .place) o ∙ sound .place-is)
+
+    -- where it gives none, the message is not refused there
+    table-passes : table ≡ 0 → 0 < readTree body .refusal → Stuck evs rest → ⊥
+    unfolding Splits
+    table-passes t n stuck = go rest refl
+      where
+        none : numberAt last rest ≡ 0
+        none = sym table-is ∙ t
+
+        next : (c : ℕ) (cs : List ℕ) → rest ≡ c ∷ cs → (q : First) → Splits c cs q → numberFirst last q ≡ 0 → ⊥
+        next c cs w (bad e) s k = omega arith
+        next c cs w (got ev size) s k =
+            let p = event-passed growing last ev (sizeOf ev) k in
+            stuck ev (drop (size - 1) cs) (w ∙ s .0) (sound-begins (p .0) (writtenEvents evs ++ writtenEvent ev) (event-keeps ev last (p .0) (writtenEvents evs) sound (s .2) (p .1)))
+
+        go : (z : List ℕ) → rest ≡ z → ⊥
+        go [] w =
+            let o : readTree body ≡ outcome last (numberAt last []) = reads-on ∙ ap (λ z. events growing z 0 last) w ∙ events-ended growing last in
+            let e : readTree body .refusal ≡ 0 = ap (λ x. x .refusal) o ∙ rw w at none in
+            omega arith
+        go (c ∷ cs) w =
+            let b : AreBytes (c ∷ cs) = rw w at (after-bytes (writtenEvents evs) rest h) in
+            next c cs w (firstEvent c cs) (first-splits c cs (λ i. b (suc i))) (rw w at none)
+
+  -- it is refused there by n exactly if the events begin some message, and row n's condition holds and no earlier row's does
+  pub refused-row : (n : ℕ) → 0 < n →
+      ((readTree body .refusal ≡ n) × (readTree body .place ≡ length (writtenEvents evs)))
+      ↔ (Begins (writtenEvents evs) × FirstToFail (messageRows (opensAfter rootAlone evs) rest) n)
+  unfolding readTree message
+  refused-row n z = (there, back)
+    where
+      there : (readTree body .refusal ≡ n) × (readTree body .place ≡ length (writtenEvents evs)) →
+          Begins (writtenEvents evs) × FirstToFail (messageRows (opensAfter rootAlone evs) rest) n
+      there p =
+          let known = refused-at evs rest h .0 (rw (p .0) z, p .1) in
+          elim (passed-or-short evs rest (begin growing []) [] begin-sound h) [
+            | through last f ↦ (known .0, by last f (known .2) table refl)
+            | short s ↦ absurd (let l = s rest .1 in omega arith)
+          ]
+        where
+          by : (last : Standing) → Follows growing (begin growing []) evs last → Stuck evs rest → (t : ℕ) → table ≡ t → FirstToFail (messageRows (opensAfter rootAlone evs) rest) n
+          by last f stuck zero e = absurd (table-passes last f e (rw (p .0) z) stuck)
+          by last f stuck (suc m) e =
+              let same : table ≡ n = e ∙ sym (table-refuses last f m e .0) ∙ p .0 in
+              rw same at (first-given 21 (messageRows (opensAfter rootAlone evs) rest) numbered (omega arith) (rw e (omega arith)))
+
+      back : Begins (writtenEvents evs) × FirstToFail (messageRows (opensAfter rootAlone evs) rest) n →
+          (readTree body .refusal ≡ n) × (readTree body .place ≡ length (writtenEvents evs))
+      back q =
+          let same : table ≡ n = given-first 21 (messageRows (opensAfter rootAlone evs) rest) numbered n (q .1) in
+          elim (passed-or-short evs rest (begin growing []) [] begin-sound h) [
+            | through last f ↦ by last f n refl same
+            | short s ↦ absurd (let l = s (q .0 .more) .0 in let e : readTree (writtenEvents evs ++ q .0 .more) .refusal ≡ 0 = message-read _ (q .0 .whole) in omega arith)
+          ]
+        where
+          by : (last : Standing) → Follows growing (begin growing []) evs last → (m : ℕ) → n ≡ m → table ≡ m → (readTree body .refusal ≡ n) × (readTree body .place ≡ length (writtenEvents evs))
+          by last f zero e t = absurd (omega arith)
+          by last f (suc m) e t = rw e (table-refuses last f m t)
+
+-- ── a message that is read has place 0 ──
+at-none : {P S : Type 0} (r : Reading P S) (e : ℕ) → e ≡ 0 → outcome r e .place ≡ 0
+at-none r e h = rw h refl
+
+module _ {P S : Type 0} (how : Keeper P S) where
+  place-none : (cs : List ℕ) (k : ℕ) (r : Reading P S) → events how cs k r .refusal ≡ 0 → events how cs k r .place ≡ 0
+  unfolding events
+  place-none [] k r h = at-none r _ h
+  place-none (c ∷ cs) (suc k) r h = place-none cs k r h
+  place-none (c ∷ cs) zero r h = go (firstEvent c cs) refl (λ k r′. place-none cs k r′)
+    where
+      by : (n : ℕ) → events how (c ∷ cs) 0 r ≡ outcome r n → events how (c ∷ cs) 0 r .place ≡ 0
+      by n o = ap (λ x. x .place) o ∙ at-none r n (ap (λ x. x .refusal) (sym o) ∙ h)
+
+      event : (ev : Event) (size : ℕ) → firstEvent c cs ≡ got ev size → (q : Next P S) → onEvent how r size ev ≡ q →
+          ((k : ℕ) (r′ : Reading P S) → events how cs k r′ .refusal ≡ 0 → events how cs k r′ .place ≡ 0) → events how (c ∷ cs) 0 r .place ≡ 0
+      event ev size d (refused e) p ih = by e (refused-event how c cs r ev size e d p)
+      event ev size d (on r′) p ih =
+          let o : events how (c ∷ cs) 0 r ≡ events how cs (size - 1) r′ = accepted-event how c cs r ev size r′ d p in
+          ap (λ x. x .place) o ∙ ih (size - 1) r′ (ap (λ x. x .refusal) (sym o) ∙ h)
+
+      go : (f : First) → firstEvent c cs ≡ f → ((k : ℕ) (r′ : Reading P S) → events how cs k r′ .refusal ≡ 0 → events how cs k r′ .place ≡ 0) → events how (c ∷ cs) 0 r .place ≡ 0
+      go (bad e) d ih = by e (bad-event how c cs r e d)
+      go (got ev size) d ih = event ev size d (onEvent how r size ev) refl ih
+
+pub read-place : (body : List ℕ) → readTree body .refusal ≡ 0 → readTree body .place ≡ 0
+unfolding readTree message
+read-place body h = place-none growing body 0 (begin growing []) h
