@@ -29,7 +29,8 @@
  * than 1,024 bytes of frames. Nothing in it calls itself. Leave 64 KiB. bench/stack.c measures it.
  *
  * Refusals. A refused call gives its number and zero counts, and everything lent
- * keeps every number that it had. The checks are made in the order of this list:
+ * keeps every number that it had. These are the numbers; each call's order is
+ * below them:
  *
  *    1  the book has fewer than 2 bytes, or ends inside its contents
  *    2  the book has more than 64 filters
@@ -44,12 +45,13 @@
  *   10  a message is not where it must be, or the file does not end with the last
  *   11  fewer than 3 answer numbers a message are lent
  *   12  fewer than 650 workspace numbers are lent
+ *   14  more slots are said to be filled than are lent, or than 4,096
  *   18  the question is not nine numbers, or the answer not eight
- *   19  more slots are said to be filled than are lent, or a count that is handed
- *       in is 2^63 or more
+ *   19  a count that is handed in, asked or anew, is 2^63 or more
  *
- * esquirmell_run gives 0 to 12, esquirmell_pass 0 to 12 and 19, esquirmell_ask
- * 0 to 7, 18 and 19.
+ * esquirmell_run checks 1 to 12 in this order, esquirmell_pass 1 to 12, then 14,
+ * then 19, and esquirmell_ask 1 to 7, then 18, then 14, then 19. The first that
+ * fails is the number; 0 is given where none does.
  *
  * A message that is refused does not refuse the run. Its row has one of these,
  * the place of the refused event's first byte in the message, and no filter:

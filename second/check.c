@@ -224,8 +224,8 @@ static void note(const test_case *c, const outcome *o) {
 
 /* The refusal numbers that a call can give. */
 static bool wanted(enum call call, unsigned number) {
-    if (call == CALL_ASK) return number <= 7 || number == 18 || number == 19;
-    if (call == CALL_PASS) return number <= 12 || number == 19;
+    if (call == CALL_ASK) return number <= 7 || number == 14 || number == 18 || number == 19;
+    if (call == CALL_PASS) return number <= 12 || number == 14 || number == 19;
     return call == CALL_RUN && number <= 12;
 }
 

@@ -595,7 +595,7 @@ esq_reply second_ask(const uint8_t *book_bytes, size_t book_len, uint64_t *memor
     if (r.refusal != 0) return r;
     r.refusal = asked_len != QUESTION || answer_len != SET ? 18 : 0;
     if (r.refusal != 0) return r;
-    r.refusal = filled > slots_in(memory_len) || anew >= COUNT_END ? 19 : 0;
+    r.refusal = filled > slots_in(memory_len) ? 14 : anew >= COUNT_END ? 19 : 0;
     if (r.refusal != 0) return r;
     book b;
     read_book(book_bytes, &b);
@@ -653,8 +653,9 @@ esq_result second_pass(const uint8_t *book_bytes, size_t book_len, const uint8_t
     esq_result r = {0};
     r.refusal = refuse_run(book_bytes, book_len, day, day_len, answers_len, workspace_len);
     if (r.refusal != 0) return r;
-    bool counts_good = filled <= slots_in(memory_len) && asked < COUNT_END && anew < COUNT_END;
-    r.refusal = counts_good ? 0 : 19;
+    r.refusal = filled > slots_in(memory_len) ? 14 : 0;
+    if (r.refusal != 0) return r;
+    r.refusal = asked < COUNT_END && anew < COUNT_END ? 0 : 19;
     if (r.refusal != 0) return r;
     book b;
     read_book(book_bytes, &b);

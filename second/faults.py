@@ -160,9 +160,14 @@ FAULTS = [
     ("the last slot is never filled", "if (a->filled < a->slots) {", "if (a->filled + 1 < a->slots) {"),
     ("a slot's answer is not written", "memcpy(slot + QUESTION, answer, SET * sizeof *slot);", ""),
     ("a long answer is taken", "answer_len != SET ? 18", "answer_len < SET ? 18"),
-    ("19 is not given for counts", "filled > slots_in(memory_len) || anew >= COUNT_END ? 19",
-     "filled > slots_in(memory_len) ? 19"),
-    ("full slots are refused", "filled > slots_in(memory_len) || anew", "filled >= slots_in(memory_len) || anew"),
+    ("19 is not given for counts", "? 14 : anew >= COUNT_END ? 19 : 0", "? 14 : 0"),
+    ("14 is given by 19's number", "? 14 : anew >= COUNT_END ? 19 : 0", "? 19 : anew >= COUNT_END ? 19 : 0"),
+    ("19 comes before 14", "filled > slots_in(memory_len) ? 14 : anew >= COUNT_END ? 19 : 0",
+     "anew >= COUNT_END ? 19 : filled > slots_in(memory_len) ? 14 : 0"),
+    ("14 comes before 18", "    r.refusal = asked_len != QUESTION || answer_len",
+     "    r.refusal = filled > slots_in(memory_len) ? 14 : 0;\n    if (r.refusal != 0) return r;\n"
+     "    r.refusal = asked_len != QUESTION || answer_len"),
+    ("full slots are refused", "filled > slots_in(memory_len) ? 14 : anew", "filled >= slots_in(memory_len) ? 14 : anew"),
     # The pass
     ("answers take each other's place", "set[i] |= more[i];", "set[i] = more[i];"),
     ("answers are cut down to the book's states", "join(set[closing->parent], answer);",
@@ -174,7 +179,9 @@ FAULTS = [
      "        put_leaves(a->book, closing, set[t->closed[i]]);"),
     ("the pass counts from 0", "return (esq_result){0, asked, a.anew, a.filled};",
      "return (esq_result){0, asked, a.anew - anew, a.filled};"),
-    ("asked of 2 to the 63 passes", "&& asked < COUNT_END && anew < COUNT_END;", "&& anew < COUNT_END;"),
+    ("the pass refuses full slots", "r.refusal = filled > slots_in(memory_len) ? 14 : 0;",
+     "r.refusal = filled >= slots_in(memory_len) ? 14 : 0;"),
+    ("asked of 2 to the 63 passes", "asked < COUNT_END && anew < COUNT_END ? 0 : 19", "anew < COUNT_END ? 0 : 19"),
 ]
 
 

@@ -497,15 +497,20 @@ static void refused_asks(void) {
     now.answer_len = 9;
     by_hand("ask-refusal-18-answer", "18 0 0", NULL);
     as_ask(1, 3, 2, 3, 0);
-    by_hand("ask-refusal-19-filled", "19 0 0", NULL);
+    by_hand("ask-refusal-14", "14 0 0", NULL);
     as_ask(1, 3, 2, 0, end);
-    by_hand("ask-refusal-19-anew", "19 0 0", NULL);
+    by_hand("ask-refusal-19", "19 0 0", NULL);
     as_ask(1, 3, 2, 0, end - 1);
     by_hand("ask-greatest-count", "0 9223372036854775808 1", NULL);
     as_ask(1, 3, 2, 3, end);
+    by_hand("ask-refusals-14-and-19", "14 0 0", NULL);
+    as_ask(1, 3, 2, 3, end);
+    now.answer_len = 7;
+    by_hand("ask-refusals-18-14-and-19", "18 0 0", NULL);
+    as_ask(1, 3, 2, 3, end);
     now.answer_len = 7;
     now.book.len = 1;
-    by_hand("ask-refusals-1-18-and-19", "1 0 0", NULL);
+    by_hand("ask-refusals-1-18-14-and-19", "1 0 0", NULL);
 }
 
 static void as_pass(uint64_t slots, uint64_t filled) {
@@ -534,13 +539,20 @@ static void passes(void) {
     as_pass(4, 4);
     by_hand("pass-from-noise", "0 117 67 4", SMALL_ROWS);
     as_pass(2, 3);
-    by_hand("pass-refusal-19-filled", "19 0 0 0", NULL);
+    by_hand("pass-refusal-14", "14 0 0 0", NULL);
     as_pass(2, 2);
     now.asked = UINT64_MAX;
     by_hand("pass-refusal-19-asked", "19 0 0 0", NULL);
+    as_pass(2, 2);
+    now.anew = UINT64_C(1) << 63;
+    by_hand("pass-refusal-19-anew", "19 0 0 0", NULL);
     as_pass(2, 3);
     now.workspace = 0;
-    by_hand("pass-refusals-12-and-19", "12 0 0 0", NULL);
+    now.anew = UINT64_MAX;
+    by_hand("pass-refusals-12-14-and-19", "12 0 0 0", NULL);
+    as_pass(2, 3);
+    now.asked = UINT64_C(1) << 63;
+    by_hand("pass-refusals-14-and-19", "14 0 0 0", NULL);
 }
 
 void each_case(case_user *use) {

@@ -53,7 +53,7 @@ void part_damage(void) {
 
 /* ---- Refusals alone and together ----------------------------------------------- */
 
-enum { ENTRY_18 = 18, ENTRY_19 = 19 };
+enum { ENTRY_14 = 14, ENTRY_18 = 18, ENTRY_19 = 19 };
 
 static void spoil_entry(unsigned refusal) {
     if (refusal == ENTRY_18) {
@@ -63,13 +63,14 @@ static void spoil_entry(unsigned refusal) {
             now.answer_len = chance(&luck, 50) ? from_to(&luck, 0, 7) : 9;
         return;
     }
-    uint64_t slots = now.memory / SLOT_NUMBERS;
-    if (slots > SLOTS_AT_MOST) slots = SLOTS_AT_MOST;
-    uint64_t end = (UINT64_C(1) << 63) + (chance(&luck, 50) ? 0 : roll(&luck) >> 1);
-    unsigned way = below(&luck, 3);
-    if (way == 0)
+    if (refusal == ENTRY_14) {
+        uint64_t slots = now.memory / SLOT_NUMBERS;
+        if (slots > SLOTS_AT_MOST) slots = SLOTS_AT_MOST;
         now.filled = slots + 1 + (chance(&luck, 50) ? 0 : roll(&luck) >> 2);
-    else if (way == 1 && now.call == CALL_PASS)
+        return;
+    }
+    uint64_t end = (UINT64_C(1) << 63) + (chance(&luck, 50) ? 0 : roll(&luck) >> 1);
+    if (now.call == CALL_PASS && chance(&luck, 50))
         now.asked = end;
     else
         now.anew = end;
@@ -100,34 +101,37 @@ static void make_refused(enum call call, uint32_t set) {
     for (unsigned i = 0; i < FEW; i++) now.question[i] = roll(&luck);
     if (in(set, 11)) now.answers = just_less_or_less(3 * day.messages);
     if (in(set, 12)) now.workspace = just_less_or_less(LEVEL_NUMBERS);
+    if (in(set, ENTRY_14)) spoil_entry(ENTRY_14);
     if (in(set, ENTRY_18)) spoil_entry(ENTRY_18);
     if (in(set, ENTRY_19)) spoil_entry(ENTRY_19);
 }
 
 void part_refusals(void) {
+    /* A call's numbers in the order of its checks. */
     static const struct {
         enum call call;
         unsigned count, number[14];
     } gives[] = {{CALL_RUN, 12, {1, 2, 3, 4, 5, 6, 7, 8, 9, 10, 11, 12}},
-                 {CALL_PASS, 13, {1, 2, 3, 4, 5, 6, 7, 8, 9, 10, 11, 12, 19}},
-                 {CALL_ASK, 9, {1, 2, 3, 4, 5, 6, 7, 18, 19}}};
+                 {CALL_PASS, 14, {1, 2, 3, 4, 5, 6, 7, 8, 9, 10, 11, 12, 14, 19}},
+                 {CALL_ASK, 10, {1, 2, 3, 4, 5, 6, 7, 18, 14, 19}}};
     for (unsigned g = 0; g < 3; g++)
         for (unsigned i = 0; i < gives[g].count; i++)
             for (unsigned k = i; k < gives[g].count; k++)
                 for (unsigned n = times(i == k ? 200 : 32); n > 0; n--) {
-                    unsigned low = gives[g].number[i], high = gives[g].number[k];
-                    make_refused(gives[g].call, UINT32_C(1) << low | UINT32_C(1) << high);
-                    check_gives(&now, low);
+                    unsigned first = gives[g].number[i], later = gives[g].number[k];
+                    make_refused(gives[g].call, UINT32_C(1) << first | UINT32_C(1) << later);
+                    check_gives(&now, first);
                 }
     for (unsigned n = times(3000); n > 0; n--) {
-        unsigned g = below(&luck, 3), low = 32;
+        unsigned g = below(&luck, 3), first = 0;
         uint32_t set = 0;
-        for (unsigned i = 0; i < gives[g].count; i++)
-            if (chance(&luck, 30)) set |= UINT32_C(1) << gives[g].number[i];
-        for (unsigned i = 32; i-- > 0;)
-            if (in(set, i)) low = i;
+        for (unsigned i = gives[g].count; i-- > 0;)
+            if (chance(&luck, 30)) {
+                first = gives[g].number[i];
+                set |= UINT32_C(1) << first;
+            }
         make_refused(gives[g].call, set);
-        check_gives(&now, low == 32 ? 0 : low);
+        check_gives(&now, first);
     }
 }
 

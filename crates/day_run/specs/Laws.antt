@@ -139,11 +139,18 @@ module _ (book day memory answers ws : List ℕ) where
         after : passRefusal lent from ≡ firstOf (totalChecks lent from)
         after = total-joined lent from ∙ pick-true _ _ _ (eq-eqb _ _ (sym told ∙ z))
 
-        pub from-counts : ltb s filled || (leb 9223372036854775808 asked || leb 9223372036854775808 anew) ≡ true → 19 ≡ passRefusal lent from
-        from-counts t = sym (after ∙ first-fails 19 _ _ (rw slots at t))
+        pub from-filled : s < filled → 14 ≡ passRefusal lent from
+        from-filled h = sym (after ∙ first-fails 14 _ _ (lt-ltb _ _ (rw slots at h)))
 
-        pub from-none : ltb s filled || (leb 9223372036854775808 asked || leb 9223372036854775808 anew) ≡ false → 0 ≡ passRefusal lent from
-        from-none t = sym (after ∙ first-passes 19 _ _ (rw slots at t) ∙ first-end)
+        module _ (room : filled ≤ s) where
+          past-filled : passRefusal lent from ≡ firstOf (record { number = 19; fails = leb 9223372036854775808 asked || leb 9223372036854775808 anew } ∷ [])
+          past-filled = after ∙ first-passes 14 _ _ (le-ltb _ _ (rw slots at room))
+
+          pub from-counts : leb 9223372036854775808 asked || leb 9223372036854775808 anew ≡ true → 19 ≡ passRefusal lent from
+          from-counts t = sym (past-filled ∙ first-fails 19 _ _ t)
+
+          pub from-none : leb 9223372036854775808 asked || leb 9223372036854775808 anew ≡ false → 0 ≡ passRefusal lent from
+          from-none t = sym (past-filled ∙ first-passes 19 _ _ t ∙ first-end)
 
     module _ (n : ℕ) (told : n ≡ passRefusal lent from) where
       run-passed : n ≡ 0 → runRefusal lent ≡ 0
@@ -155,10 +162,10 @@ module _ (book day memory answers ws : List ℕ) where
 
       pub from-accepts : n ≡ 0 → RunAccepted book day memory answers ws counts
       from-accepts z =
-          let one = first-zero 19 _ _ (omega arith) (sym (after (runRefusal lent) refl (run-passed z) (slotsLent memory) refl) ∙ sym told ∙ z) in
-          let over = neither _ _ (one .0) in
-          let many = neither _ _ (over .1) in
-          accepted-with counts (run-passed z) (ltb-false _ _ (over .0)) (leb-false _ _ (many .0)) (leb-false _ _ (many .1))
+          let one = first-zero 14 _ _ (omega arith) (sym (after (runRefusal lent) refl (run-passed z) (slotsLent memory) refl) ∙ sym told ∙ z) in
+          let two = first-zero 19 _ _ (omega arith) (one .1) in
+          let many = neither _ _ (two .0) in
+          accepted-with counts (run-passed z) (ltb-false _ _ (one .0)) (leb-false _ _ (many .0)) (leb-false _ _ (many .1))
 
       pub from-refuses : (n ≡ 0 → ⊥) → totalReturned (record { refusal = n; asked = 0; anew = 0; filled = 0 }) memory answers ws ≡ passFrom lent from
       unfolding passFrom

@@ -123,7 +123,7 @@ pub fn run(
     }
 }
 
-// The run's refusals, then 19: more slots filled than lent, or a count of 2^63 or more.
+// The run's refusals, then 14: more slots filled than lent; then 19: a count of 2^63 or more.
 fn pass_refusal(
     book: &[u8],
     day: &[u8],
@@ -138,9 +138,10 @@ fn pass_refusal(
     if no != 0 {
         return no;
     }
-    let over = memory_slots::lent(memory) < from.filled;
-    let many = (9223372036854775808 <= from.asked) | (9223372036854775808 <= from.anew);
-    if over | many {
+    if memory_slots::lent(memory) < from.filled {
+        return 14;
+    }
+    if (9223372036854775808 <= from.asked) | (9223372036854775808 <= from.anew) {
         return 19;
     }
     0

@@ -6,7 +6,7 @@ use Prim.Native.Nat.{ℕ, suc, _+_, _*_, _≤_, _<_}
 use native.Mathlib.Omega.{arith}
 use lib.Dec.{eqb, ltb, leb}
 use lib.ListN.{length}
-use borrow.Author.Tests.{eqb-true, eq-eqb, ne-eqb, ltb-false, leb-false}
+use borrow.Author.Tests.{eqb-true, eq-eqb, ne-eqb, lt-ltb, le-ltb, ltb-false, le-leb, lt-leb, leb-false}
 use Rattle.lists.specs.Choice.{pick}
 use Rattle.lists.specs.Checks.{Check, firstOf}
 use Rattle.lists.specs.Choice.Laws.{pick-true, pick-false, neither, not-not}
@@ -49,11 +49,18 @@ module _ (book w room : List ℕ) (k : Kept) where
     refused-question z t = sym (later z ∙ first-fails _ _ _ t)
 
     module _ (z : n ≡ 0) (fits : not (eqb (length w) 9) || not (eqb (length room) 8) ≡ false) (s : ℕ) (lent : s ≡ slotsLent (k .memory)) where
-      pub refused-counts : ltb s (k .filled) || leb 9223372036854775808 (k .anew) ≡ true → 19 ≡ questionRefusal lent-so
-      refused-counts t = sym (later z ∙ first-passes _ _ _ fits ∙ first-fails _ _ _ (rw lent at t))
+      pub refused-filled : s < k .filled → 14 ≡ questionRefusal lent-so
+      refused-filled h = sym (later z ∙ first-passes _ _ _ fits ∙ first-fails _ _ _ (lt-ltb _ _ (rw lent at h)))
 
-      pub accepts : ltb s (k .filled) || leb 9223372036854775808 (k .anew) ≡ false → 0 ≡ questionRefusal lent-so
-      accepts t = sym (later z ∙ first-passes _ _ _ fits ∙ first-passes _ _ _ (rw lent at t) ∙ first-end)
+      module _ (few : k .filled ≤ s) where
+        past-filled : questionRefusal lent-so ≡ firstOf (record { number = 19; fails = leb 9223372036854775808 (k .anew) } ∷ [])
+        past-filled = later z ∙ first-passes _ _ _ fits ∙ first-passes _ _ _ (le-ltb _ _ (rw lent at few))
+
+        pub refused-count : 9223372036854775808 ≤ k .anew → 19 ≡ questionRefusal lent-so
+        refused-count h = sym (past-filled ∙ first-fails _ _ _ (le-leb _ _ h))
+
+        pub accepts : k .anew < 9223372036854775808 → 0 ≡ questionRefusal lent-so
+        accepts h = sym (past-filled ∙ first-passes _ _ _ (lt-leb _ _ h) ∙ first-end)
 
   -- ── `answer_question` ──
   module _ (n : ℕ) (checked : n ≡ questionRefusal lent-so) where
@@ -66,16 +73,16 @@ module _ (book w room : List ℕ) (k : Kept) where
     answerable z =
         let book-fine : bookRefusal book ≡ 0 = book-passes (sym joined ∙ sym checked ∙ z) in
         let one = first-zero 18 _ _ (omega arith) (sym (later (bookRefusal book) refl book-fine) ∙ sym checked ∙ z) in
-        let two = first-zero 19 _ _ (omega arith) (one .1) in
+        let two = first-zero 14 _ _ (omega arith) (one .1) in
+        let three = first-zero 19 _ _ (omega arith) (two .1) in
         let sizes = neither _ _ (one .0) in
-        let counts = neither _ _ (two .0) in
         record {
           accepted = book-fine;
           nine = eqb-true _ _ (not-not _ (sizes .0));
           eight = eqb-true _ _ (not-not _ (sizes .1));
-          few = lent-few k (ltb-false _ _ (counts .0));
-          fits = lent-room k (ltb-false _ _ (counts .0));
-          rises = leb-false _ _ (counts .1);
+          few = lent-few k (ltb-false _ _ (two .0));
+          fits = lent-room k (ltb-false _ _ (two .0));
+          rises = leb-false _ _ (three .0);
         }
       where
         book-passes : pick (eqb (bookRefusal book) 0) (firstOf (questionChecks lent-so)) (bookRefusal book) ≡ 0 → bookRefusal book ≡ 0

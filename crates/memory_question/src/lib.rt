@@ -31,7 +31,10 @@ fn refusal_of(book: &[u8], memory: &[u64], c: Counts, q: &[u64], answer: &[u64])
     if (q.len() != 9) | (answer.len() != 8) {
         return 18;
     }
-    if (memory_slots::lent(memory) < c.filled) | (9223372036854775808 <= c.anew) {
+    if memory_slots::lent(memory) < c.filled {
+        return 14;
+    }
+    if 9223372036854775808 <= c.anew {
         return 19;
     }
     0

@@ -1,5 +1,5 @@
 -- The two calls beside the run that ask questions: the pass from any filled slots, and the inner call with no run
--- around it. Section "Questions and the memory". Both take any arguments; refusals 18 and 19 are theirs, and the
+-- around it. Section "Questions and the memory". Both take any arguments; refusals 14, 18 and 19 are theirs, and the
 -- paper gives them no number (docs/DECISIONS.md).
 use mathlib.Core.Bool.{_||_, not}
 use mathlib.Core.List.{List, [], _∷_, _++_}
@@ -26,11 +26,13 @@ totals asked anew filled = record { asked = asked; anew = anew; filled = filled 
 abbrev pub carriedFrom : Totals → List ℕ → Carried
 carriedFrom c memory = record { asked = c .asked; kept = record { memory = memory; anew = c .anew; filled = c .filled } }
 
--- 19, after the run's refusals: more slots filled than lent, or a count of 2^63 or more, which a day file might raise
--- past 64 bits
+-- after the run's refusals
 abbrev pub totalChecks : Lent → Totals → List Check
 totalChecks l c =
-    record { number = 19; fails = ltb (slotsLent (l .memory)) (c .filled) || (leb 9223372036854775808 (c .asked) || leb 9223372036854775808 (c .anew)) } ∷ []
+    -- more slots are said to be filled than C: "C is the lent count div 17, at most 4,096"
+    record { number = 14; fails = ltb (slotsLent (l .memory)) (c .filled) } ∷
+    -- a count of 2^63 or more, which a day file might raise past 64 bits
+    record { number = 19; fails = leb 9223372036854775808 (c .asked) || leb 9223372036854775808 (c .anew) } ∷ []
 
 unfoldable pub passRefusal : Lent → Totals → ℕ
 passRefusal l c = firstOf (runChecks l ++ totalChecks l c)
@@ -56,8 +58,10 @@ abbrev pub questionChecks : QuestionLent → List Check
 questionChecks l =
     -- the question is not nine numbers, or the room for the answer not eight
     record { number = 18; fails = not (eqb (length (l .question)) 9) || not (eqb (length (l .room)) 8) } ∷
-    -- more slots filled than lent, or a count worked out anew of 2^63 or more, as in the pass from filled slots
-    record { number = 19; fails = ltb (slotsLent (l .kept .memory)) (l .kept .filled) || leb 9223372036854775808 (l .kept .anew) } ∷ []
+    -- more slots are said to be filled than C, as in the pass from filled slots
+    record { number = 14; fails = ltb (slotsLent (l .kept .memory)) (l .kept .filled) } ∷
+    -- a count worked out anew of 2^63 or more, as there
+    record { number = 19; fails = leb 9223372036854775808 (l .kept .anew) } ∷ []
 
 unfoldable pub questionRefusal : QuestionLent → ℕ
 questionRefusal l = firstOf (bookChecks (l .book) ++ questionChecks l)

@@ -1,4 +1,4 @@
-use Rattle.memory_question.specs.Laws.{refused-book, refused-question, refused-counts, accepts}
+use Rattle.memory_question.specs.Laws.{refused-book, refused-question, refused-filled, refused-count, accepts}
 use borrow.Author.Needs.{needs}
 use Rattle.memory_question.proofs.refusal_of.Statement.{statement}
 use Rattle.memory_question.proofs.refusal_of.Tie as tie
@@ -11,5 +11,6 @@ refusal-of-spec =
     (λ c. search (refused-book, needs))  -- returns
     (λ c. search (refused-question, needs))  -- returns-2
     (λ c κs. search needs)  -- lent-requires
-    (λ c. search (refused-counts, needs))  -- returns-3
-    (λ c. search (accepts, needs)))  -- returns-4
+    (λ c. search (refused-filled, needs))  -- returns-3
+    (λ c. search (refused-count, needs))  -- returns-4
+    (λ c. search (accepts, needs)))  -- returns-5
