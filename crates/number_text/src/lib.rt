@@ -141,11 +141,11 @@ pub fn related(relation: u64, a: i32, b: i32) -> bool
     ensures { λ r. ⌜ r ≡ stands (relationOf relation) a b ⌝ }
 {
     match relation {
-        1 => (a <= b) & (b <= a),
-        2 => !((a <= b) & (b <= a)),
+        1 => a == b,
+        2 => a != b,
         3 => a < b,
         4 => a <= b,
-        5 => b < a,
-        _ => b <= a,
+        5 => a > b,
+        _ => a >= b,
     }
 }
