@@ -5,6 +5,7 @@ use Prim.Native.Nat.{ℕ, zero, suc, _+_, _*_, _^_}
 pub mod Laws
 pub mod Searched
 pub mod Laid
+pub mod Examples
 
 -- some number below n passes the test
 unfoldable pub someBelow : (ℕ → Bool) → ℕ → Bool

@@ -5,6 +5,7 @@ use mathlib.Core.List.{List, [], _∷_}
 use Prim.Native.Nat.{ℕ, _<_}
 use lib.Dec.{eqb}
 pub mod Laws
+pub mod Examples
 
 pub record Check : Type 0 where
   pub number : ℕ

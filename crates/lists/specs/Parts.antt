@@ -6,6 +6,7 @@ use lib.ListN.{length, take, drop}
 pub mod Laws
 pub mod Copying
 pub mod Clearing
+pub mod Examples
 
 unfoldable pub part : List ℕ → ℕ → ℕ → List ℕ
 part s a n = take n (drop a s)

@@ -4,6 +4,7 @@ use mathlib.Core.List.{List, [], _∷_}
 use Prim.Native.Nat.{ℕ}
 use lib.Dec.{eqb}
 pub mod Comparing
+pub mod Examples
 
 unfoldable pub sameList : List ℕ → List ℕ → Bool
 sameList [] [] = true

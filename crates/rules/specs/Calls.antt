@@ -12,6 +12,7 @@ use Rattle.rules.specs.Book.{bookChecks, statesOf}
 use Rattle.rules.specs.Memory.{questionIn, slotsLent, Kept, Reply, ask}
 use Rattle.rules.specs.Pass.{Carried}
 use Rattle.rules.specs.Run.{Lent, Returned, runChecks, refusedRun, passDay}
+pub mod Examples
 
 -- ── "the pass over the messages promises this from any filled slots, wrong answers and all" ──
 -- the counts that it starts from: asked, worked out anew, filled
