@@ -5,11 +5,25 @@ use mathlib.Core.Path.{_≡_, refl}
 use mathlib.Core.Bool.{Bool, true, false}
 use mathlib.Core.List.{List, [], _∷_, _++_, map}
 use Prim.Native.Nat.{ℕ, zero, suc, _/_, _%_}
+use lib.IntN.{pos}
 use lib.ListN.{length, replicate}
 use Rattle.lists.specs.Choice.{pick}
 use Rattle.lists.specs.Checks.{firstOf}
-use Rattle.rules.specs.Value.{stripStart, stripBefore, stripEnd, digitsFrom, someDigits, wholeNumber, textValue}
+use Rattle.rules.specs.Value.{
+  no-text,
+  no-number,
+  out-of-range,
+  number,
+  stripStart,
+  stripBefore,
+  stripEnd,
+  digitsFrom,
+  someDigits,
+  wholeNumber,
+  textValue,
+}
 use Rattle.rules.specs.Message.{
+  isOut,
   Keeper,
   Outcome,
   firstEvent,
@@ -157,13 +171,18 @@ unfolding readOut
 texts-astray = refl
 
 -- "27 whole number out of range"
-pub out-of-range : Read (
+pub numbers-out : Read (
     row (top ∷ says (replicate 10 57) ∷ []) 27 3 ∷ row (top ∷ says (45 ∷ replicate 10 57) ∷ []) 27 3 ∷
     row (top ∷ begins a ∷ says (replicate 10 57) ∷ []) 27 6 ∷
     row (top ∷ says (replicate 9 57) ∷ ends 1 ∷ []) 0 0 ∷
     row (top ∷ says (replicate 10 57 ++ 97 ∷ []) ∷ ends 1 ∷ []) 0 0 ∷ [])
 unfolding readOut
-out-of-range = refl
+numbers-out = refl
+
+-- of the values only that one
+pub values-out : map isOut (no-text ∷ no-number ∷ out-of-range ∷ number (pos 0) ∷ [])
+    ≡ false ∷ false ∷ true ∷ false ∷ []
+values-out = refl
 
 -- "28 end with nothing open or another label"
 pub ends-astray : Read (
