@@ -4,9 +4,10 @@
     python3 tests/clauses.py [DEFINITION..]     all wrong forms, or those of the definitions named
     python3 tests/clauses.py --by-definition    the same, and at the end what refuses each definition's changes
 
-The wrong forms are in tests/clauses.txt. Each is put into a copy of the tree, and the crate of the definition is checked: REFUSED with the
-law or example that refuses it first, UNNOTICED, or BAD EDIT where the wrong form is no definition (a scope, type or parse error in it), which
-shows nothing. Every `abbrev` and `unfoldable` definition of a door file of the two crates must have a wrong form. It is no part of the gate.
+The wrong forms are in tests/clauses.txt. Each is put into a copy of the tree, and the crate of the definition is checked: REFUSED with
+the law or example that refuses it first, UNNOTICED, or BAD EDIT where the wrong form is no definition (a scope, type or parse error in
+it), which shows nothing. Every `abbrev` and `unfoldable` definition of a door file of the two crates must have a wrong form. It is no
+part of the gate.
 """
 import glob
 import os
@@ -190,8 +191,14 @@ def copied(folder):
     return tree
 
 
+def told(row, what, where, seconds):
+    crate, name, definition, old, new = row
+    change = ("%s ⇒ %s" % (old, new)).replace("\n", "\\n")
+    print("%s %s.%s.%s: %s   at %s (%.1f s)" % (what, crate, name, definition, change, where, seconds), flush=True)
+
+
 def tried(rows):
-    """What becomes of each row, in the order of the rows. A worker takes a door at a time, the one with most rows first."""
+    """What becomes of each row, told as it comes. A worker takes a door at a time, the one with most rows first."""
     waiting, results, defined = queue.Queue(), {}, definitions()
     doors = [row[:2] for row in rows]
     for one in sorted(set(doors), key=lambda d: -doors.count(d)):
@@ -208,7 +215,8 @@ def tried(rows):
                 if row[:2] == (crate, name):
                     began = time.time()
                     what, where = verdict(tree, row, defined)
-                    results[row] = what, where, time.time() - began
+                    results[row] = what, where
+                    told(row, what, where, time.time() - began)
             with_all(tree, crate)
 
     with tempfile.TemporaryDirectory() as folder:
@@ -238,9 +246,7 @@ def main():
         sys.exit("clauses: no such definition")
     results = tried(rows)
     refusers = {}
-    for (crate, name, definition, old, new), (what, where, seconds) in zip(rows, results):
-        change = ("%s ⇒ %s" % (old, new)).replace("\n", "\\n")
-        print("%s %s.%s.%s: %s   at %s (%.1f s)" % (what, crate, name, definition, change, where, seconds))
+    for (crate, name, definition, _, _), (what, where) in zip(rows, results):
         if what == "REFUSED":
             refusers.setdefault("%s.%s.%s" % (crate, name, definition), []).append(where.split(" ")[1])
     if by_definition:
@@ -248,7 +254,7 @@ def main():
             print("%s → %s" % (definition, ", ".join(dict.fromkeys(by))))
     for line in missing:
         print("MISSING " + line)
-    refused = sum(1 for what, _, _ in results if what == "REFUSED")
+    refused = sum(1 for what, _ in results if what == "REFUSED")
     print("%d clauses, %d refused" % (len(rows), refused))
     if missing or refused < len(rows):
         sys.exit(1)
