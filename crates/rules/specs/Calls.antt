@@ -3,18 +3,23 @@
 -- paper gives them no number (docs/DECISIONS.md).
 use mathlib.Core.Bool.{_||_, not}
 use mathlib.Core.List.{List, [], _∷_, _++_}
-use Prim.Native.Nat.{ℕ}
+use Prim.Native.Nat.{ℕ, _^_}
 use lib.Dec.{eqb, ltb, leb}
 use lib.ListN.{length}
 use Rattle.lists.specs.Choice.{pick}
 use Rattle.lists.specs.Checks.{Check, firstOf}
 use Rattle.rules.specs.Book.{bookChecks, statesOf}
-use Rattle.rules.specs.Memory.{questionIn, slotsLent, Kept, Reply, ask}
+use Rattle.rules.specs.Sets.{setWidth}
+use Rattle.rules.specs.Memory.{questionWidth, questionIn, slotsLent, Kept, Reply, ask}
 use Rattle.rules.specs.Pass.{Carried}
 use Rattle.rules.specs.Run.{Lent, Returned, runChecks, refusedRun, passDay}
 pub mod Examples
 
 -- ── "the pass over the messages promises this from any filled slots, wrong answers and all" ──
+-- 2^63: a count below it stays below 2^64, whatever a day file asks
+abbrev pub countLimit : ℕ
+countLimit = 2 ^ 63
+
 -- the counts that it starts from: asked, worked out anew, filled
 pub record Totals : Type 0 where
   pub asked : ℕ
@@ -33,7 +38,7 @@ totalChecks l c =
     -- more slots are said to be filled than C: "C is the lent count div 17, at most 4,096"
     record { number = 14; fails = ltb (slotsLent (l .memory)) (c .filled) } ∷
     -- a count of 2^63 or more, which a day file might raise past 64 bits
-    record { number = 19; fails = leb 9223372036854775808 (c .asked) || leb 9223372036854775808 (c .anew) } ∷ []
+    record { number = 19; fails = leb countLimit (c .asked) || leb countLimit (c .anew) } ∷ []
 
 unfoldable pub passRefusal : Lent → Totals → ℕ
 passRefusal l c = firstOf (runChecks l ++ totalChecks l c)
@@ -58,11 +63,11 @@ pub record QuestionReturned : Type 0 where
 abbrev pub questionChecks : QuestionLent → List Check
 questionChecks l =
     -- the question is not nine numbers, or the room for the answer not eight
-    record { number = 18; fails = not (eqb (length (l .question)) 9) || not (eqb (length (l .room)) 8) } ∷
+    record { number = 18; fails = not (eqb (length (l .question)) questionWidth) || not (eqb (length (l .room)) setWidth) } ∷
     -- more slots are said to be filled than C, as in the pass from filled slots
     record { number = 14; fails = ltb (slotsLent (l .kept .memory)) (l .kept .filled) } ∷
     -- a count worked out anew of 2^63 or more, as there
-    record { number = 19; fails = leb 9223372036854775808 (l .kept .anew) } ∷ []
+    record { number = 19; fails = leb countLimit (l .kept .anew) } ∷ []
 
 unfoldable pub questionRefusal : QuestionLent → ℕ
 questionRefusal l = firstOf (bookChecks (l .book) ++ questionChecks l)

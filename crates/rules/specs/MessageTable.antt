@@ -9,9 +9,9 @@ use Rattle.lists.specs.Choice.{pick}
 use Rattle.lists.specs.Parts.{part}
 use Rattle.lists.specs.Checks.{Check}
 use Rattle.rules.specs.Bytes.{le2}
-use Rattle.rules.specs.State.{attribute}
+use Rattle.rules.specs.State.{anyElement, anyAttribute, attribute}
 use Rattle.rules.specs.Value.{textValue}
-use Rattle.rules.specs.Message.{Event, start, text, end, isOut}
+use Rattle.rules.specs.Message.{Event, start, text, end, mostOpen, isOut}
 pub mod Laws
 pub mod Refused
 
@@ -96,10 +96,10 @@ messageRows o rest =
     record { number = 21; fails = not (noMore rest) && not (isKind 1 rest || isKind 2 rest || isKind 3 rest) } ∷
     record { number = 22; fails = not (noMore rest) && cutShort rest } ∷
     -- "start label 0 or 32,768"
-    record { number = 23; fails = isKind 1 rest && (eqb (labelThere rest) 0 || eqb (labelThere rest) 32768) } ∷
+    record { number = 23; fails = isKind 1 rest && (eqb (labelThere rest) anyElement || eqb (labelThere rest) anyAttribute) } ∷
     record { number = 24; fails = isKind 1 rest && startAmiss o (labelThere rest) } ∷
     -- "a 65th open start"
-    record { number = 25; fails = isKind 1 rest && leb 64 (length (o .under)) } ∷
+    record { number = 25; fails = isKind 1 rest && leb mostOpen (length (o .under)) } ∷
     record { number = 26; fails = isKind 2 rest && textAmiss o } ∷
     -- "whole number out of range"
     record { number = 27; fails = isKind 2 rest && isOut (textValue (textThere rest)) } ∷
