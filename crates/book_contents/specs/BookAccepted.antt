@@ -13,7 +13,7 @@ use Rattle.lists.specs.Below.{someBelow}
 use Rattle.lists.specs.Checks.{rowFails}
 use Rattle.lists.specs.Choice.Laws.{neither, not-not}
 use Rattle.lists.specs.Below.Laws.{someBelow-each}
-use Rattle.lists.specs.Checks.Laws.{none-fails}
+use Rattle.lists.specs.Checks.Laws.{none-fails, row-passes}
 use Rattle.rules.specs.Book.{filterCount, idOf, bodyStart, bodySize, statesBefore, bodyPlace, rowAt, leadsAt, bookShort, idsFall, badSizes, bodiesAstray, badRows, badSuccessors, bookChecks, bookRefusal}
 
 -- ── what the checks ask of an entry ──
@@ -78,7 +78,7 @@ pub record BookAccepted (b : List ℕ) : Type 0 where
 pub accepted : (b : List ℕ) → bookRefusal b ≡ 0 → BookAccepted b
 unfolding bookRefusal
 accepted b e =
-    let passes : (j : ℕ) → rowFails (bookChecks b) j ≡ false = none-fails 1 (bookChecks b) (refl, (refl, (refl, (refl, (refl, (refl, (refl, tt))))))) (omega arith) e in
+    let passes : (j : ℕ) → rowFails (bookChecks b) j ≡ false = row-passes (bookChecks b) (none-fails (bookChecks b) refl e) in
     record {
       few = ltb-false _ _ (passes 2);
       rise = ids-rise b (passes 3);

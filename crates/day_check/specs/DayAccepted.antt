@@ -14,7 +14,7 @@ use Rattle.lists.specs.Checks.{rowFails}
 use Rattle.lists.specs.Choice.Laws.{neither, not-not}
 use Rattle.lists.specs.Parts.Laws.{part-lent, part-long}
 use Rattle.lists.specs.Below.Laws.{someBelow-each}
-use Rattle.lists.specs.Checks.Laws.{none-fails}
+use Rattle.lists.specs.Checks.Laws.{none-fails, row-passes}
 use Rattle.rules.specs.DayFile.{messageCount, messageStart, messageLength, bytesBefore, messagePlace, messageBody, dayOff, messagesAstray, dayChecks, dayRefusal}
 
 -- what the check asks of an entry
@@ -55,7 +55,7 @@ pub record DayAccepted (d : List ℕ) : Type 0 where
 pub accepted : (d : List ℕ) → dayRefusal d ≡ 0 → DayAccepted d
 unfolding dayRefusal
 accepted d e =
-    let passes : (j : ℕ) → rowFails (dayChecks d) j ≡ false = none-fails 8 (dayChecks d) (refl, (refl, (refl, tt))) (omega arith) e in
+    let passes : (j : ℕ) → rowFails (dayChecks d) j ≡ false = row-passes (dayChecks d) (none-fails (dayChecks d) refl e) in
     record {
       few = ltb-false _ _ (passes 9);
       table = room d (passes 8) .1;

@@ -10,13 +10,13 @@ use borrow.Author.Tests.{eq-eqb, ne-eqb, eqb-true, lt-ltb, le-ltb, ltb-false, le
 use Rattle.lists.specs.Choice.{pick}
 use Rattle.lists.specs.Checks.{Check, firstOf}
 use Rattle.lists.specs.Choice.Laws.{pick-true, pick-false, neither}
-use Rattle.lists.specs.Checks.Laws.{first-fails, first-passes, first-end, first-zero, first-join, Numbered}
+use Rattle.lists.specs.Checks.Laws.{first-fails, first-passes, first-end, first-zero, first-join}
 use Rattle.rules.specs.Book.{bookChecks, bookRefusal}
 use Rattle.rules.specs.DayFile.{messageCount, dayChecks, dayRefusal}
 use Rattle.rules.specs.Memory.{slotsLent}
 use Rattle.rules.specs.Memory.Laws.{lent-fits}
 use Rattle.rules.specs.Run.{Lent, Returned, lentChecks, runChecks, runRefusal, refusedRun, passDay, atFirst, run}
-use Rattle.rules.specs.Run.Laws.{numbered, run-refused, run-accepted}
+use Rattle.rules.specs.Run.Laws.{no-zero, run-refused, run-accepted}
 use Rattle.rules.specs.Calls.{totals, totalChecks, passRefusal, passFrom}
 use Rattle.rules.specs.Calls as rules
 use Rattle.book_planner.specs.Make.{Made}
@@ -30,13 +30,13 @@ module _ (l : Lent) where
   joined : runRefusal l ≡ pick (eqb (bookRefusal (l .book)) 0) (pick (eqb (dayRefusal (l .day)) 0) (firstOf (lentChecks l)) (dayRefusal (l .day))) (bookRefusal (l .book))
   unfolding runRefusal bookRefusal dayRefusal
   joined =
-      first-join 1 (bookChecks (l .book)) (dayChecks (l .day) ++ lentChecks l) (refl, (refl, (refl, (refl, (refl, (refl, (refl, tt))))))) (omega arith)
+      first-join (bookChecks (l .book)) (dayChecks (l .day) ++ lentChecks l) refl
       ∙ ap (λ (n : ℕ). pick (eqb (firstOf (bookChecks (l .book))) 0) n (firstOf (bookChecks (l .book))))
-      (first-join 8 (dayChecks (l .day)) (lentChecks l) (refl, (refl, (refl, tt))) (omega arith))
+      (first-join (dayChecks (l .day)) (lentChecks l) refl)
 
   total-joined : (c : rules.Totals) → passRefusal l c ≡ pick (eqb (runRefusal l) 0) (firstOf (totalChecks l c)) (runRefusal l)
   unfolding passRefusal runRefusal
-  total-joined c = first-join 1 (runChecks l) (totalChecks l c) (numbered l) (omega arith)
+  total-joined c = first-join (runChecks l) (totalChecks l c) (no-zero l)
 
   -- ── the refusals ──
   module _ (b : ℕ) (checked : b ≡ bookRefusal (l .book)) where

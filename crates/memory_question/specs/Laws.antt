@@ -35,7 +35,7 @@ module _ (book w room : List ℕ) (k : Kept) where
 
   joined : questionRefusal lent-so ≡ pick (eqb (bookRefusal book) 0) (firstOf (questionChecks lent-so)) (bookRefusal book)
   unfolding questionRefusal bookRefusal
-  joined = first-join 1 (bookChecks book) (questionChecks lent-so) (refl, (refl, (refl, (refl, (refl, (refl, (refl, tt))))))) (omega arith)
+  joined = first-join (bookChecks book) (questionChecks lent-so) refl
 
   -- ── `refusal_of` ──
   module _ (n : ℕ) (checked : n ≡ bookRefusal book) where

@@ -1,15 +1,14 @@
--- Laws of checks in an order: the first that fails, row by row, and checks joined.
-use mathlib.Core.Path.{_≡_, refl, sym, _∙_}
-use mathlib.Core.Bool.{Bool, true, false, true≢false, false≢true}
+-- Laws of checks in an order: the first that fails, row by row; checks joined, and checks with their numbers raised.
+use mathlib.Core.Path.{_≡_, refl, sym, _∙_, ap}
+use mathlib.Core.Bool.{Bool, true, false, _&&_}
 use mathlib.Core.List.{List, [], _∷_, _++_}
-use Prim.Native.Nat.{ℕ, suc, _<_}
+use Prim.Native.Nat.{ℕ, _+_, _<_}
 use native.Mathlib.Omega.{arith}
-use native.Mathlib.Decide.{decLt, ℕ-discrete}
-use lib.Dec.{eqb}
-use borrow.Author.Tests.{eq-eqb, ne-eqb}
+use lib.Dec.{eqb, ltb}
+use borrow.Author.Tests.{ne-eqb, ltb-true}
 use Rattle.lists.specs.Choice.{pick}
-use Rattle.lists.specs.Choice.Laws.{pick-false}
-use Rattle.lists.specs.Checks.{Check, firstOf, rowFails, FirstToFail}
+use Rattle.lists.specs.Choice.Laws.{pick-false, both}
+use Rattle.lists.specs.Checks.{Check, firstOf, raised, rowFails, AllPass, FirstToFail}
 
 pub first-fails : (n : ℕ) (t : Bool) (cs : List Check) → t ≡ true → firstOf (record { number = n; fails = t } ∷ cs) ≡ n
 unfolding firstOf
@@ -28,104 +27,83 @@ pub first-zero : (n : ℕ) (t : Bool) (cs : List Check) → 0 < n → firstOf (r
 first-zero n true cs h e = absurd (let d : n ≡ 0 = sym (first-fails n true cs refl) ∙ e in omega arith)
 first-zero n false cs h e = (refl, sym (first-passes n false cs refl) ∙ e)
 
--- ── a number is given exactly when its own row's condition holds and no earlier row's does ──
--- the checks are numbered k, k + 1, ..
-abbrev pub Numbered : ℕ → List Check → Type 0
-Numbered k [] = Unit {0}
-Numbered k (c ∷ cs) = (c .number ≡ k) × Numbered (suc k) cs
+-- ── a number is given exactly when a row with it fails and no row before that one does ──
+-- no row is numbered 0, the number of no refusal
+abbrev pub noZero : List Check → Bool
+noZero [] = true
+noZero (c ∷ cs) = ltb 0 (c .number) && noZero cs
 
--- rows below the first number do not fail
-low-row : (k : ℕ) (cs : List Check) → Numbered k cs → (j : ℕ) → j < k → rowFails cs j ≡ false
-low-row k [] h j l = refl
-low-row k (c ∷ cs) h j l = rw (h .0, ne-eqb k j (λ e. omega arith), rowFails) (low-row (suc k) cs (h .1) j (omega arith))
+row-number : (c : Check) (cs : List Check) → noZero (c ∷ cs) ≡ true → (0 < c .number) × (noZero cs ≡ true)
+row-number c cs z = let p = both (ltb 0 (c .number)) (noZero cs) z in (ltb-true 0 (c .number) (p .0), p .1)
 
-row-here : (k : ℕ) (c : Check) (cs : List Check) → c .number ≡ k → rowFails (c ∷ cs) k ≡ c .fails
-row-here k c cs e = rw (e, eq-eqb k k refl, rowFails)
+first-at : (before : List Check) (c : Check) (after : List Check) → AllPass before → c .fails ≡ true → firstOf (before ++ c ∷ after) ≡ c .number
+first-at [] c after p e = first-fails (c .number) (c .fails) after e
+first-at (b ∷ before) c after p e = first-passes (b .number) (b .fails) (before ++ c ∷ after) (p .0) ∙ first-at before c after (p .1) e
 
-row-later : (k j : ℕ) (c : Check) (cs : List Check) → c .number ≡ k → (k ≡ j → ⊥) → rowFails (c ∷ cs) j ≡ rowFails cs j
-row-later k j c cs e ne = rw (e, ne-eqb k j ne, rowFails)
+pub given-first : (cs : List Check) (n : ℕ) → FirstToFail cs n → firstOf cs ≡ n
+given-first cs n g = ap firstOf (g .order) ∙ first-at (g .before) (g .row) (g .after) (g .earlier) (g .own) ∙ g .number
 
-pub given-first : (k : ℕ) (cs : List Check) → Numbered k cs → (n : ℕ) → FirstToFail cs n → firstOf cs ≡ n
+-- a number that is no 0 is given only so
+pub first-given : (cs : List Check) (n : ℕ) → 0 < n → firstOf cs ≡ n → FirstToFail cs n
 unfolding firstOf
-given-first k [] h n g = absurd (false≢true (g .own))
-given-first k (c ∷ cs) h n g = go (c .fails) refl (given-first (suc k) cs (h .1) n)
+first-given [] n h e = absurd (omega arith)
+first-given (c ∷ cs) n h e = go (c .fails) refl (first-given cs n h) e
   where
-    go : (t : Bool) → c .fails ≡ t → (FirstToFail cs n → firstOf cs ≡ n) → _≡_ {A = ℕ} (elim t [ true ↦ c .number | false ↦ firstOf cs ]) n
-    go true e ih = elim (ℕ-discrete k n) [
-      | yes d ↦ h .0 ∙ d
-      | no d ↦ elim (decLt k n) [
-        | yes l ↦ absurd (true≢false (sym (row-here k c cs (h .0) ∙ e) ∙ g .earlier k l))
-        | no l ↦ absurd (false≢true (sym (low-row k (c ∷ cs) h n (omega arith)) ∙ g .own))
-      ]
-    ]
-    go false e ih = elim (ℕ-discrete k n) [
-      | yes d ↦ absurd (false≢true (sym (row-here n c cs (h .0 ∙ d) ∙ e) ∙ g .own))
-      | no d ↦ ih (record {
-        own = sym (row-later k n c cs (h .0) d) ∙ g .own;
-        earlier = λ j l. elim (ℕ-discrete k j) [
-          | yes u ↦ low-row (suc k) cs (h .1) j (omega arith)
-          | no u ↦ sym (row-later k j c cs (h .0) u) ∙ g .earlier j l
-        ];
-      })
-    ]
-
--- a number that is no 0 is given by the first check that fails only so
-pub first-given : (k : ℕ) (cs : List Check) → Numbered k cs → 0 < k → 0 < firstOf cs → FirstToFail cs (firstOf cs)
-unfolding firstOf
-first-given k [] h z p = absurd (omega arith)
-first-given k (c ∷ cs) h z p = go (c .fails) refl p (first-given (suc k) cs (h .1) (omega arith))
-  where
-    go : (t : Bool) → c .fails ≡ t → 0 < (elim t [ true ↦ c .number | false ↦ firstOf cs ]) → (0 < firstOf cs → FirstToFail cs (firstOf cs)) →
-        FirstToFail (c ∷ cs) (elim t [ true ↦ c .number | false ↦ firstOf cs ])
-    go true e q ih = record {
-      own = row-here (c .number) c cs refl ∙ e;
-      earlier = λ j l. low-row k (c ∷ cs) h j (omega (arith, h .0));
-    }
-    go false e q ih =
-        let g : FirstToFail cs (firstOf cs) = ih q in
-        let past : k ≡ firstOf cs → ⊥ = λ d. true≢false (sym (g .own) ∙ low-row (suc k) cs (h .1) (firstOf cs) (omega arith)) in
+    go : (t : Bool) → c .fails ≡ t → (firstOf cs ≡ n → FirstToFail cs n) → _≡_ {A = ℕ} (elim t [ true ↦ c .number | false ↦ firstOf cs ]) n → FirstToFail (c ∷ cs) n
+    go true f ih e = record { before = []; row = c; after = cs; order = refl; earlier = tt; own = f; number = e }
+    go false f ih e =
+        let g : FirstToFail cs n = ih e in
         record {
-          own = row-later k (firstOf cs) c cs (h .0) past ∙ g .own;
-          earlier = λ j l. elim (ℕ-discrete k j) [
-            | yes u ↦ rw (← u) (row-here k c cs (h .0) ∙ e)
-            | no u ↦ row-later k j c cs (h .0) u ∙ g .earlier j l
-          ];
+          before = c ∷ g .before;
+          row = g .row;
+          after = g .after;
+          order = ap (λ (ds : List Check). c ∷ ds) (g .order);
+          earlier = (f, g .earlier);
+          own = g .own;
+          number = g .number;
         }
 
 -- none is given exactly when no row fails
-pub none-fails : (k : ℕ) (cs : List Check) → Numbered k cs → 0 < k → firstOf cs ≡ 0 → (j : ℕ) → rowFails cs j ≡ false
-unfolding firstOf
-none-fails k [] h z p j = refl
-none-fails k (c ∷ cs) h z p j = go (c .fails) refl p (λ e. none-fails (suc k) cs (h .1) (omega arith) e j)
-  where
-    go : (t : Bool) → c .fails ≡ t → _≡_ {A = ℕ} (elim t [ true ↦ c .number | false ↦ firstOf cs ]) 0 → (firstOf cs ≡ 0 → rowFails cs j ≡ false) →
-        rowFails (c ∷ cs) j ≡ false
-    go true e q ih = absurd (omega (arith, h .0))
-    go false e q ih = elim (ℕ-discrete k j) [
-      | yes u ↦ rw (← u) (row-here k c cs (h .0) ∙ e)
-      | no u ↦ row-later k j c cs (h .0) u ∙ ih q
-    ]
+pub none-fails : (cs : List Check) → noZero cs ≡ true → firstOf cs ≡ 0 → AllPass cs
+none-fails [] z e = tt
+none-fails (c ∷ cs) z e =
+    let n = row-number c cs z in
+    let p = first-zero (c .number) (c .fails) cs (n .0) e in
+    (p .0, none-fails cs (n .1) (p .1))
 
-pub all-pass : (k : ℕ) (cs : List Check) → Numbered k cs → ((j : ℕ) → rowFails cs j ≡ false) → firstOf cs ≡ 0
-unfolding firstOf
-all-pass k [] h f = refl
-all-pass k (c ∷ cs) h f = go (c .fails) refl (all-pass (suc k) cs (h .1))
+pub all-pass : (cs : List Check) → AllPass cs → firstOf cs ≡ 0
+all-pass [] p = first-end
+all-pass (c ∷ cs) p = first-passes (c .number) (c .fails) cs (p .0) ∙ all-pass cs (p .1)
+
+-- then no row fails that is looked up by its number
+pub row-passes : (cs : List Check) → AllPass cs → (n : ℕ) → rowFails cs n ≡ false
+row-passes [] p n = refl
+row-passes (c ∷ cs) p n = go (eqb (c .number) n) (row-passes cs (p .1) n)
   where
-    go : (t : Bool) → c .fails ≡ t → (((j : ℕ) → rowFails cs j ≡ false) → firstOf cs ≡ 0) → _≡_ {A = ℕ} (elim t [ true ↦ c .number | false ↦ firstOf cs ]) 0
-    go true e ih = absurd (true≢false (sym (row-here k c cs (h .0) ∙ e) ∙ f k))
-    go false e ih = ih (λ j. elim (ℕ-discrete k j) [
-      | yes u ↦ low-row (suc k) cs (h .1) j (omega arith)
-      | no u ↦ sym (row-later k j c cs (h .0) u) ∙ f j
-    ])
+    go : (t : Bool) → rowFails cs n ≡ false → _≡_ {A = Bool} (elim t [ true ↦ c .fails | false ↦ rowFails cs n ]) false
+    go true ih = p .0
+    go false ih = ih
 
 -- checks joined: the later ones count where no earlier one fails
-pub first-join : (k : ℕ) (cs ds : List Check) → Numbered k cs → 0 < k → firstOf (cs ++ ds) ≡ pick (eqb (firstOf cs) 0) (firstOf ds) (firstOf cs)
+pub first-join : (cs ds : List Check) → noZero cs ≡ true → firstOf (cs ++ ds) ≡ pick (eqb (firstOf cs) 0) (firstOf ds) (firstOf cs)
 unfolding firstOf pick
-first-join k [] ds h z = refl
-first-join k (c ∷ cs) ds h z = go (c .fails) (first-join (suc k) cs ds (h .1) (omega arith))
+first-join [] ds z = refl
+first-join (c ∷ cs) ds z = go (c .fails) (first-join cs ds (row-number c cs z .1))
   where
     go : (t : Bool) → firstOf (cs ++ ds) ≡ pick (eqb (firstOf cs) 0) (firstOf ds) (firstOf cs) →
         _≡_ {A = ℕ} (elim t [ true ↦ c .number | false ↦ firstOf (cs ++ ds) ])
         (pick (eqb (elim t [ true ↦ c .number | false ↦ firstOf cs ]) 0) (firstOf ds) (elim t [ true ↦ c .number | false ↦ firstOf cs ]))
-    go true ih = sym (pick-false _ _ _ (ne-eqb (c .number) 0 (λ e. omega (arith, h .0))))
+    go true ih = sym (pick-false _ _ _ (ne-eqb (c .number) 0 (λ e. omega (arith, row-number c cs z .0))))
+    go false ih = ih
+
+-- numbers raised by k: the number given is raised, and none is given where none was
+pub first-raised : (k : ℕ) (cs : List Check) → noZero cs ≡ true → firstOf (raised k cs) ≡ pick (eqb (firstOf cs) 0) 0 (k + firstOf cs)
+unfolding firstOf pick
+first-raised k [] z = refl
+first-raised k (c ∷ cs) z = go (c .fails) (first-raised k cs (row-number c cs z .1))
+  where
+    go : (t : Bool) → firstOf (raised k cs) ≡ pick (eqb (firstOf cs) 0) 0 (k + firstOf cs) →
+        _≡_ {A = ℕ} (elim t [ true ↦ k + c .number | false ↦ firstOf (raised k cs) ])
+        (pick (eqb (elim t [ true ↦ c .number | false ↦ firstOf cs ]) 0) 0 (k + (elim t [ true ↦ c .number | false ↦ firstOf cs ])))
+    go true ih = sym (pick-false _ _ _ (ne-eqb (c .number) 0 (λ e. omega (arith, row-number c cs z .0))))
     go false ih = ih

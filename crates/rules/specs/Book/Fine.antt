@@ -24,7 +24,7 @@ use Rattle.rules.specs.Match.{matches, MatchRule}
 use Rattle.rules.specs.Run.{Lent, runRefusal}
 use Rattle.rules.specs.Match.Settle.{Higher, Inside, Fine}
 use Rattle.rules.specs.Match.Laws.{one-reading}
-use Rattle.rules.specs.Run.Laws.{accepted-exactly}
+use Rattle.rules.specs.Run.Laws.{accepted-row}
 use Rattle.rules.specs.Run.Day.{states-long}
 
 -- state number j leads to higher states, of the states below n
@@ -141,7 +141,7 @@ module _ (b : List ℕ) (rows : badRows b ≡ false) (leads : badSuccessors b �
 
 -- ── a run that is not refused ──
 pub book-fine : (l : Lent) → runRefusal l ≡ 0 → Fine (statesOf (l .book))
-book-fine l e = states-fine (l .book) ((accepted-exactly l) .0 e 6) ((accepted-exactly l) .0 e 7)
+book-fine l e = states-fine (l .book) (accepted-row l e 6) (accepted-row l e 7)
 
 -- so the match rule has one reading: any function with its laws, state kind by state kind, is `matches`
 pub book-reading : (l : Lent) → runRefusal l ≡ 0 → (m : Content → ℕ → Bool) → MatchRule (statesOf (l .book)) m →

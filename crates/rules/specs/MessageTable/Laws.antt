@@ -11,7 +11,7 @@ use borrow.Author.Tests.{eqb-true, lt-ltb, le-ltb, leb-true, leb-false, eq-eqb, 
 use Rattle.lists.specs.Choice.{pick}
 use Rattle.lists.specs.Parts.{part}
 use Rattle.lists.specs.Checks.{Check, firstOf, FirstToFail}
-use Rattle.lists.specs.Checks.Laws.{Numbered, given-first, first-given, first-zero}
+use Rattle.lists.specs.Checks.Laws.{first-zero}
 use Rattle.rules.specs.State.{attribute}
 use Rattle.rules.specs.Value.{textValue}
 use Rattle.rules.specs.Message.{Event, start, text, end, First, bad, got, labelled, texted, firstEvent, Level, Reading, Keeper, startAstray, startRefusal, isOut, textRefusal, endRefusal, lastRefusal, stageAfter, Next, refused, on, unless, shutInto, onEvent, begin}

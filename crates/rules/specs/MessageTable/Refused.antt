@@ -6,7 +6,7 @@ use Prim.Native.Nat.{ℕ, zero, suc, _-_, _<_}
 use native.Mathlib.Omega.{arith}
 use lib.ListN.{length, drop}
 use Rattle.lists.specs.Checks.{firstOf, FirstToFail}
-use Rattle.lists.specs.Checks.Laws.{Numbered, given-first, first-given}
+use Rattle.lists.specs.Checks.Laws.{given-first, first-given}
 use Rattle.rules.specs.Tree.{Content, Node}
 use Rattle.rules.specs.Message.{Event, start, text, end, First, bad, got, firstEvent, Reading, Keeper, Next, refused, on, outcome, unless, onEvent, begin, events, message}
 use Rattle.rules.specs.Message.Events.{sizeOf, Follows, Splits, first-splits, events-ended, events-broken, events-follow}
@@ -51,9 +51,6 @@ module _ (evs : List Event) (rest : List ℕ) (h : AreBytes (writtenEvents evs +
   abbrev table : ℕ
   table = firstOf (messageRows (opensAfter rootAlone evs) rest)
 
-  numbered : Numbered 21 (messageRows (opensAfter rootAlone evs) rest)
-  numbered = (refl, (refl, (refl, (refl, (refl, (refl, (refl, (refl, (refl, tt)))))))))
-
   module _ (last : Standing) (f : Follows growing (begin growing []) evs last) where
     reads-on : readTree body ≡ events growing rest 0 last
     unfolding readTree message
@@ -94,7 +91,8 @@ module _ (evs : List Event) (rest : List ℕ) (h : AreBytes (writtenEvents evs +
             let b : AreBytes (c ∷ cs) = rw w at (after-bytes (writtenEvents evs) rest h) in
             next c cs w (firstEvent c cs) (first-splits c cs (λ i. b (suc i))) (rw w at none)
 
-  -- it is refused there by n exactly if the events begin some message, and row n's condition holds and no earlier row's does
+  -- it is refused there by n exactly if the events begin some message, and a row with number n fails and no row before
+  -- it in the table does
   pub refused-row : (n : ℕ) → 0 < n →
       ((readTree body .refusal ≡ n) × (readTree body .place ≡ length (writtenEvents evs)))
       ↔ (Begins (writtenEvents evs) × FirstToFail (messageRows (opensAfter rootAlone evs) rest) n)
@@ -114,12 +112,12 @@ module _ (evs : List Event) (rest : List ℕ) (h : AreBytes (writtenEvents evs +
           by last f stuck zero e = absurd (table-passes last f e (rw (p .0) z) stuck)
           by last f stuck (suc m) e =
               let same : table ≡ n = e ∙ sym (table-refuses last f m e .0) ∙ p .0 in
-              rw same at (first-given 21 (messageRows (opensAfter rootAlone evs) rest) numbered (omega arith) (rw e (omega arith)))
+              first-given (messageRows (opensAfter rootAlone evs) rest) n z same
 
       back : Begins (writtenEvents evs) × FirstToFail (messageRows (opensAfter rootAlone evs) rest) n →
           (readTree body .refusal ≡ n) × (readTree body .place ≡ length (writtenEvents evs))
       back q =
-          let same : table ≡ n = given-first 21 (messageRows (opensAfter rootAlone evs) rest) numbered n (q .1) in
+          let same : table ≡ n = given-first (messageRows (opensAfter rootAlone evs) rest) n (q .1) in
           elim (passed-or-short evs rest (begin growing []) [] begin-sound h) [
             | through last f ↦ by last f n refl same
             | short s ↦ absurd (let l = s (q .0 .more) .0 in let e : readTree (writtenEvents evs ++ q .0 .more) .refusal ≡ 0 = message-read _ (q .0 .whole) in omega arith)

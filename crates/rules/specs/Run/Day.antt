@@ -23,7 +23,7 @@ use Rattle.rules.specs.Memory.{nine, slotQuestion, slotAnswer, slotsLent
 use Rattle.rules.specs.Pass.{Passed, passMessage, answerRow, passTo}
 use Rattle.rules.specs.Run.{Lent, Returned, runRefusal, passDay, atFirst, run, withMemory}
 use Rattle.rules.specs.Asked.{readTree, questionOf, rightAnswer, messageQuestions, questionsTo, dayQuestions, sameQuestion, isAmong, different, firstDifferent, notKept, messageRow, nodesTo, HeldRight, dayNodes, treeRow, treeRows}
-use Rattle.rules.specs.Run.Laws.{accepted-exactly, run-accepted, run-refused}
+use Rattle.rules.specs.Run.Laws.{accepted-row, run-accepted, run-refused}
 use Rattle.rules.specs.Match.Laws.{work-is-right}
 use Rattle.rules.specs.Asked.Different.{same-eq, among-at, members}
 use Rattle.rules.specs.Memory.FirstC.{Eight, eight-first, written-question, written-answer, kept-is}
@@ -42,7 +42,7 @@ or-right false b e = e
 pub few-states : (l : Lent) → runRefusal l ≡ 0 → length (statesOf (l .book)) ≤ 512
 unfolding statesOf badSizes
 few-states l e =
-    let b : badSizes (l .book) ≡ false = (accepted-exactly l) .0 e 4 in
+    let b : badSizes (l .book) ≡ false = accepted-row l e 4 in
     rw (states-long (l .book) (filterCount (l .book))) (ltb-false _ _ (or-right (someBelow (λ k. eqb (bodySize (l .book) k) 0) (filterCount (l .book))) _ b))
 
 -- the questions asked are theirs

@@ -1,4 +1,4 @@
--- When a run is refused and by which number, without the order of the checks; and what a refused event leaves.
+-- When a run is refused and by which number; and what a refused event leaves.
 use mathlib.Core.Path.{_≡_, refl, sym, _∙_, ap}
 use mathlib.Core.Bool.{Bool, true, false}
 use mathlib.Core.List.{List, [], _∷_, _++_}
@@ -7,38 +7,42 @@ use native.Mathlib.Omega.{arith}
 use mathlib.Core.Logic.{_↔_}
 use lib.Dec.{ltb}
 use lib.ListN.{length}
-use Rattle.lists.specs.Checks.{Check, firstOf, rowFails, FirstToFail}
-use Rattle.lists.specs.Checks.Laws.{Numbered, given-first, first-given, none-fails, all-pass}
-use Rattle.rules.specs.Book.{filterCount, bookShort, idsFall, badSizes, bodiesAstray, badRows, badSuccessors, bookChecks}
-use Rattle.rules.specs.DayFile.{messageCount, dayOff, messagesAstray, dayChecks}
+use Rattle.lists.specs.Checks.{Check, firstOf, rowFails, AllPass, FirstToFail}
+use Rattle.lists.specs.Checks.Laws.{noZero, given-first, first-given, none-fails, all-pass, row-passes}
+use Rattle.rules.specs.Book.{mostFilters, filterCount, bookShort, idsFall, badSizes, bodiesAstray, badRows, badSuccessors, bookChecks}
+use Rattle.rules.specs.DayFile.{mostMessages, messageCount, dayOff, messagesAstray, dayChecks}
 use Rattle.rules.specs.Message.{Event, First, bad, got, firstEvent, Reading, Keeper, Next, refused, on, Outcome, outcome, onEvent, events}
-use Rattle.rules.specs.Run.{Lent, lentChecks, runRefusal, refusedRun, passDay, atFirst, run, runChecks}
+use Rattle.rules.specs.Run.{rowWidth, workspaceWidth, Lent, lentChecks, runRefusal, refusedRun, passDay, atFirst, run, runChecks}
 
 -- ── the refusal table ──
--- its rows are numbered 1 to 12, and row by row it says
-pub numbered : (l : Lent) → Numbered 1 (runChecks l)
-numbered l = (refl, (refl, (refl, (refl, (refl, (refl, (refl, (refl, (refl, (refl, (refl, (refl, tt))))))))))))
+-- no row is numbered 0, and row by row it says
+pub no-zero : (l : Lent) → noZero (runChecks l) ≡ true
+no-zero l = refl
 
 pub rows-say : (l : Lent) →
     rowFails (runChecks l) 1 ∷ rowFails (runChecks l) 2 ∷ rowFails (runChecks l) 3 ∷ rowFails (runChecks l) 4 ∷ rowFails (runChecks l) 5 ∷ rowFails (runChecks l) 6 ∷
     rowFails (runChecks l) 7 ∷ rowFails (runChecks l) 8 ∷ rowFails (runChecks l) 9 ∷ rowFails (runChecks l) 10 ∷ rowFails (runChecks l) 11 ∷ rowFails (runChecks l) 12 ∷ []
-    ≡ bookShort (l .book) ∷ ltb 64 (filterCount (l .book)) ∷ idsFall (l .book) ∷ badSizes (l .book) ∷ bodiesAstray (l .book) ∷ badRows (l .book) ∷
-    badSuccessors (l .book) ∷ dayOff (l .day) ∷ ltb 4096 (messageCount (l .day)) ∷ messagesAstray (l .day) ∷
-    ltb (length (l .answers)) (3 * messageCount (l .day)) ∷ ltb (length (l .workspace)) 650 ∷ []
+    ≡ bookShort (l .book) ∷ ltb mostFilters (filterCount (l .book)) ∷ idsFall (l .book) ∷ badSizes (l .book) ∷ bodiesAstray (l .book) ∷ badRows (l .book) ∷
+    badSuccessors (l .book) ∷ dayOff (l .day) ∷ ltb mostMessages (messageCount (l .day)) ∷ messagesAstray (l .day) ∷
+    ltb (length (l .answers)) (rowWidth * messageCount (l .day)) ∷ ltb (length (l .workspace)) workspaceWidth ∷ []
 rows-say l = refl
 
--- a run is refused by n exactly if row n's condition holds and no earlier row's does
+-- a run is refused by n exactly if a row with number n fails and no row before it in the table does
 pub refused-exactly : (l : Lent) (n : ℕ) → 0 < n → (runRefusal l ≡ n) ↔ FirstToFail (runChecks l) n
 unfolding runRefusal
 refused-exactly l n z = (
-  λ e. rw e at (first-given 1 (runChecks l) (numbered l) (omega arith) (omega arith)),
-  given-first 1 (runChecks l) (numbered l) n,
+  first-given (runChecks l) n z,
+  given-first (runChecks l) n,
 )
 
--- it is not refused exactly if no row's condition holds
-pub accepted-exactly : (l : Lent) → (runRefusal l ≡ 0) ↔ ((n : ℕ) → rowFails (runChecks l) n ≡ false)
+-- it is not refused exactly if no row fails
+pub accepted-exactly : (l : Lent) → (runRefusal l ≡ 0) ↔ AllPass (runChecks l)
 unfolding runRefusal
-accepted-exactly l = (none-fails 1 (runChecks l) (numbered l) (omega arith), all-pass 1 (runChecks l) (numbered l))
+accepted-exactly l = (none-fails (runChecks l) (no-zero l), all-pass (runChecks l))
+
+-- then no row does that is looked up by its number
+pub accepted-row : (l : Lent) → runRefusal l ≡ 0 → (n : ℕ) → rowFails (runChecks l) n ≡ false
+accepted-row l e = row-passes (runChecks l) ((accepted-exactly l) .0 e)
 
 pub run-refused : (l : Lent) (e : ℕ) → runRefusal l ≡ suc e → run l ≡ refusedRun l (suc e)
 unfolding run
