@@ -3,7 +3,7 @@
 use mathlib.Core.Path.{_≡_, sym, _∙_}
 use mathlib.Core.Bool.{Bool, true, false}
 use mathlib.Core.List.{List, [], _∷_}
-use Prim.Native.Nat.{ℕ, _+_, _*_, _<_, _≤_}
+use Prim.Native.Nat.{ℕ, _<_, _≤_}
 use native.Mathlib.Omega.{arith}
 use lib.Dec.{ltb}
 use lib.ListN.{length}
@@ -11,7 +11,8 @@ use borrow.Author.Tests.{lt-ltb, le-ltb}
 use Rattle.lists.specs.Checks.{Check, firstOf}
 use Rattle.lists.specs.Checks.Laws.{first-fails, first-passes, first-end}
 use Rattle.book_contents.specs.BookAccepted.{room}
-use Rattle.rules.specs.Book.{filterCount, bookShort, idsFall, badSizes, bodiesAstray, badRows, badSuccessors, bookRefusal}
+use Rattle.rules.specs.Bytes.{entryAt}
+use Rattle.rules.specs.Book.{mostFilters, filterCount, bookShort, idsFall, badSizes, bodiesAstray, badRows, badSuccessors, bookRefusal}
 
 -- the checks from number k on
 abbrev from7 : List ℕ → List Check
@@ -30,7 +31,7 @@ abbrev from3 : List ℕ → List Check
 from3 b = record { number = 3; fails = idsFall b } ∷ from4 b
 
 abbrev from2 : List ℕ → List Check
-from2 b = record { number = 2; fails = ltb 64 (filterCount b) } ∷ from3 b
+from2 b = record { number = 2; fails = ltb mostFilters (filterCount b) } ∷ from3 b
 
 module _ (b : List ℕ) where
   pub refused-1 : {t : Bool} → t ≡ bookShort b → t ≡ true → 1 ≡ bookRefusal b
@@ -42,12 +43,12 @@ module _ (b : List ℕ) where
     unfolding bookRefusal
     rest1 = first-passes 1 _ (from2 b) (sym short-is ∙ short-not)
 
-    pub refused-2 : {f : ℕ} → f ≡ filterCount b → 64 < f → 2 ≡ bookRefusal b
-    refused-2 {f} e h = sym (rest1 ∙ first-fails 2 _ (from3 b) (lt-ltb 64 (filterCount b) (omega arith)))
+    pub refused-2 : {f : ℕ} → f ≡ filterCount b → mostFilters < f → 2 ≡ bookRefusal b
+    refused-2 {f} e h = sym (rest1 ∙ first-fails 2 _ (from3 b) (lt-ltb mostFilters (filterCount b) (omega arith)))
 
-    module _ {f : ℕ} (count : f ≡ filterCount b) (few : f ≤ 64) where
+    module _ {f : ℕ} (count : f ≡ filterCount b) (few : f ≤ mostFilters) where
       rest2 : bookRefusal b ≡ firstOf (from3 b)
-      rest2 = rest1 ∙ first-passes 2 _ (from3 b) (le-ltb 64 (filterCount b) (omega arith))
+      rest2 = rest1 ∙ first-passes 2 _ (from3 b) (le-ltb mostFilters (filterCount b) (omega arith))
 
       pub refused-3 : {t : Bool} → t ≡ idsFall b → t ≡ true → 3 ≡ bookRefusal b
       refused-3 e h = sym (rest2 ∙ first-fails 3 _ (from4 b) (sym e ∙ h))
@@ -85,7 +86,7 @@ module _ (b : List ℕ) where
                 accepts = sym (rest6 ∙ first-passes 7 _ [] (sym leads-is ∙ leads-not) ∙ first-end)
 
 -- ── what a check that passed gives the next ──
-pub roomy : (b : List ℕ) {t : Bool} → t ≡ bookShort b → t ≡ false → 2 + 8 * filterCount b ≤ length b
+pub roomy : (b : List ℕ) {t : Bool} → t ≡ bookShort b → t ≡ false → entryAt (filterCount b) ≤ length b
 roomy b e h = room b (sym e ∙ h) .1
 
 pub bare : (b : List ℕ) {t : Bool} → t ≡ bookShort b → t ≡ false → 2 ≤ length b

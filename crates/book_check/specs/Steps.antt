@@ -2,14 +2,15 @@
 use mathlib.Core.Path.{_≡_, refl, sym, _∙_}
 use mathlib.Core.Bool.{Bool, true, false, _||_, not}
 use mathlib.Core.List.{List}
-use Prim.Native.Nat.{ℕ, _+_, _-_, _*_, _<_, _≤_}
+use Prim.Native.Nat.{ℕ, _+_, _-_, _*_, _^_, _<_, _≤_}
 use native.Mathlib.Omega.{arith}
 use native.Mathlib.Numerals.{add-one}
 use lib.Dec.{eqb, ltb, leb}
 use lib.ListN.{length}
 use borrow.Author.Tests.{lt-ltb, le-ltb, eq-eqb, ne-eqb}
 use Rattle.lists.specs.Below.{someBelow}
-use Rattle.rules.specs.Book.{filterCount, idOf, bodyStart, bodySize, statesBefore, bookShort, idsFall, badSizes, bodiesAstray}
+use Rattle.rules.specs.Bytes.{entryAt}
+use Rattle.rules.specs.Book.{mostStates, stateWidth, filterCount, idOf, bodyStart, bodySize, statesBefore, bookShort, idsFall, badSizes, bodiesAstray}
 use Rattle.book_contents.specs.BookAccepted.{fallsAt, emptyAt}
 use Rattle.lists.specs.Below.Searched.{Searched, searched-next, searched-hit, searched-all}
 use Rattle.lists.specs.Below.Laid.{Laid, astray, laid-none, laid-next, laid-hit, laid-all}
@@ -19,9 +20,9 @@ pub short-bare : (b : List ℕ) → length b < 2 → true ≡ bookShort b
 unfolding bookShort
 short-bare b h = simp (lt-ltb (length b) 2 h)
 
-pub short-is : (b : List ℕ) (f : ℕ) → 2 ≤ length b → f ≡ filterCount b → ltb (length b) (2 + 8 * f) ≡ bookShort b
+pub short-is : (b : List ℕ) (e : ℕ) → 2 ≤ length b → e ≡ entryAt (filterCount b) → ltb (length b) e ≡ bookShort b
 unfolding bookShort
-short-is b f h e = simp (le-ltb (length b) 2 h, e)
+short-is b e h d = simp (le-ltb (length b) 2 h, d)
 
 pub falls-is : (b : List ℕ) (k p q : ℕ) → p ≡ idOf b k → q ≡ idOf b (k + 1) → leb q p ≡ fallsAt b k
 falls-is b k p q e d = rw (e, d)
@@ -66,26 +67,26 @@ summed-next {b} {f} {sum} {k} {n} g h e l = record { within = omega arith; low =
 pub summed-all : {b : List ℕ} {f sum k : ℕ} → f ≡ filterCount b → Summed b f sum k → f ≤ k → sum ≡ statesBefore b (filterCount b)
 summed-all {b} {f} {sum} {k} count g h = let e : k ≡ filterCount b = omega arith in rw (← e) (g .same)
 
-pub sizes-is : (b : List ℕ) (t : Bool) (n : ℕ) → t ≡ someBelow (emptyAt b) (filterCount b) → n ≡ statesBefore b (filterCount b) → t || ltb 512 n ≡ badSizes b
+pub sizes-is : (b : List ℕ) (t : Bool) (n : ℕ) → t ≡ someBelow (emptyAt b) (filterCount b) → n ≡ statesBefore b (filterCount b) → t || ltb mostStates n ≡ badSizes b
 unfolding badSizes
 sizes-is b t n e d = rw (e, d)
 
 -- ── 5 ──
 abbrev pub Placed : List ℕ → ℕ → ℕ → ℕ → Type 0
-Placed b f place k = Laid (bodyStart b) (λ j. 8 * statesBefore b j) (2 + 8 * f) f place k
+Placed b f place k = Laid (bodyStart b) (λ j. stateWidth * statesBefore b j) (entryAt f) f place k
 
-placed-is : (b : List ℕ) (f : ℕ) → f ≡ filterCount b → astray (bodyStart b) (λ j. 8 * statesBefore b j) (2 + 8 * f) f (length b) ≡ bodiesAstray b
+placed-is : (b : List ℕ) (f : ℕ) → f ≡ filterCount b → astray (bodyStart b) (λ j. stateWidth * statesBefore b j) (entryAt f) f (length b) ≡ bodiesAstray b
 unfolding bodiesAstray
 placed-is b f count = rw count
 
 module _ (b : List ℕ) {f : ℕ} (count : f ≡ filterCount b) where
-  pub placed-none : Placed b f (2 + 8 * f) 0
+  pub placed-none : {place : ℕ} → place ≡ entryAt (filterCount b) → Placed b f place 0
   unfolding statesBefore
-  placed-none = laid-none (omega arith)
+  placed-none {place} e = let d : place ≡ entryAt f = omega arith in rw d (laid-none (omega arith))
 
-  pub placed-next : {place k s n : ℕ} → Placed b f place k → k < f → s ≡ bodyStart b k → s ≡ place → n ≡ bodySize b k → n < 65536 → Placed b f (place + 8 * n) (k + 1)
+  pub placed-next : {place k s l : ℕ} → Placed b f place k → k < f → s ≡ bodyStart b k → s ≡ place → l ≡ stateWidth * bodySize b k → l < 2 ^ 20 → Placed b f (place + l) (k + 1)
   unfolding statesBefore
-  placed-next {k = k} g h es ep en l = laid-next g h es ep (omega arith) (rw (add-one k) (omega arith))
+  placed-next {k = k} g h es ep el m = laid-next g h es ep (omega arith) (rw (add-one k) (omega arith))
 
   pub placed-hit : {place k s : ℕ} → Placed b f place k → k < f → s ≡ bodyStart b k → (s ≡ place → ⊥) → true ≡ bodiesAstray b
   placed-hit g h es d = laid-hit g h es (length b) d ∙ placed-is b f count

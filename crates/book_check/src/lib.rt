@@ -3,10 +3,11 @@
 // One function a refusal, each an equation to the definition in rules/specs/Book.antt. Read next: book_planner and
 // book_filter_body.
 ghost use mathlib.Core.Path.{_≡_};
-ghost use Prim.Native.Nat.{_+_, _*_, _<_, _≤_};
+ghost use Prim.Native.Nat.{_+_, _<_, _≤_};
 ghost use lib.ListN.{length};
 ghost use Rattle.lists.specs.Lending.{was};
 ghost use Rattle.lists.specs.Below.{someBelow};
+ghost use Rattle.rules.specs.Bytes.{entryAt};
 ghost use Rattle.rules.specs.Book.{filterCount, statesBefore, bookShort, idsFall, badSizes, bodiesAstray};
 ghost use Rattle.rules.specs.Promise.{BookPromise};
 ghost use Rattle.book_contents.specs.BookAccepted.{fallsAt, emptyAt};
@@ -17,11 +18,11 @@ fn short(book: &[u8]) -> bool
     if book.len() < 2 {
         return true;
     }
-    book.len() < 2 + 8 * book_contents::filter_count(book)
+    book.len() < book_contents::contents_end(book)
 }
 
 fn falls_at(book: &[u8], k: usize) -> bool
-    requires { ⌜ 18 + 8 * k ≤ length (now book) ⌝ }
+    requires { ⌜ entryAt (k + 2) ≤ length (now book) ⌝ }
     ensures { λ r. ⌜ r ≡ fallsAt (was book) k ⌝ }
 {
     let id = book_contents::id_of(book, k);
@@ -29,7 +30,7 @@ fn falls_at(book: &[u8], k: usize) -> bool
 }
 
 fn ids_fall(book: &[u8]) -> bool
-    requires { ⌜ 2 + 8 * filterCount (now book) ≤ length (now book) ⌝ }
+    requires { ⌜ entryAt (filterCount (now book)) ≤ length (now book) ⌝ }
     ensures { λ r. ⌜ r ≡ idsFall (was book) ⌝ }
 {
     let f = book_contents::filter_count(book);
@@ -44,7 +45,7 @@ fn ids_fall(book: &[u8]) -> bool
 }
 
 fn some_empty(book: &[u8]) -> bool
-    requires { ⌜ 2 + 8 * filterCount (now book) ≤ length (now book) ⌝ }
+    requires { ⌜ entryAt (filterCount (now book)) ≤ length (now book) ⌝ }
     ensures { λ r. ⌜ r ≡ someBelow (emptyAt (was book)) (filterCount (was book)) ⌝ }
 {
     let f = book_contents::filter_count(book);
@@ -59,7 +60,7 @@ fn some_empty(book: &[u8]) -> bool
 }
 
 fn total(book: &[u8]) -> usize
-    requires { ⌜ 2 + 8 * filterCount (now book) ≤ length (now book) ⌝ }
+    requires { ⌜ entryAt (filterCount (now book)) ≤ length (now book) ⌝ }
     ensures { λ r. ⌜ r ≡ statesBefore (was book) (filterCount (was book)) ⌝ }
 {
     let f = book_contents::filter_count(book);
@@ -73,25 +74,25 @@ fn total(book: &[u8]) -> usize
 }
 
 fn bad_sizes(book: &[u8]) -> bool
-    requires { ⌜ 2 + 8 * filterCount (now book) ≤ length (now book) ⌝ }
+    requires { ⌜ entryAt (filterCount (now book)) ≤ length (now book) ⌝ }
     ensures { λ r. ⌜ r ≡ badSizes (was book) ⌝ }
 {
-    some_empty(book) | (512 < total(book))
+    some_empty(book) | (book_contents::STATES < total(book))
 }
 
 // `place` is where the next body must start; after the last one it is where the book must end.
 fn bodies_astray(book: &[u8]) -> bool
-    requires { ⌜ 2 + 8 * filterCount (now book) ≤ length (now book) ⌝ }
+    requires { ⌜ entryAt (filterCount (now book)) ≤ length (now book) ⌝ }
     ensures { λ r. ⌜ r ≡ bodiesAstray (was book) ⌝ }
 {
     let f = book_contents::filter_count(book);
-    let mut place = 2 + 8 * f;
+    let mut place = book_contents::contents_end(book);
     let mut k = 0;
     while k < f {
         if book_contents::body_start(book, k) != place {
             return true;
         }
-        place += 8 * book_contents::body_size(book, k);
+        place += book_contents::body_length(book, k);
         k += 1;
     }
     book.len() != place
@@ -103,7 +104,7 @@ pub fn check_book(book: &[u8]) -> u64
     if short(book) {
         return 1;
     }
-    if 64 < book_contents::filter_count(book) {
+    if book_contents::FILTERS < book_contents::filter_count(book) {
         return 2;
     }
     if ids_fall(book) {

@@ -1,2 +1,3 @@
--- What an accepted book gives.
+-- The numbers of an entry, and what an accepted book gives.
+pub mod Entries
 pub mod BookAccepted

@@ -15,7 +15,7 @@ use Rattle.lists.specs.Parts.{part}
 use Rattle.lists.specs.Below.{someBelow}
 use Rattle.lists.specs.Choice.Laws.{pick-true, pick-false}
 use Rattle.lists.specs.Parts.Laws.{part-long}
-use Rattle.rules.specs.Book.{filterCount, idOf, bodyStart, bodySize, bookRefusal, bodyAmong, bodyOf}
+use Rattle.rules.specs.Book.{stateWidth, filterCount, idOf, bodyStart, bodySize, bookRefusal, bodyAmong, bodyOf}
 use Rattle.book_contents.specs.BookAccepted.{BookAccepted, accepted, body-inside}
 
 abbrev pub hasId : List ℕ → ℕ → ℕ → Bool
@@ -29,11 +29,11 @@ abbrev bare : List ℕ → Bool
 bare l = eqb (length l) 0
 
 -- one entry more, whose id is the one that is looked for (t) or not
-among-more : (b l : List ℕ) (k : ℕ) (s t : Bool) → BookAccepted b → k < filterCount b → bare l ≡ not s → bare (pick t (part b (bodyStart b k) (8 * bodySize b k)) l) ≡ not (s || t)
+among-more : (b l : List ℕ) (k : ℕ) (s t : Bool) → BookAccepted b → k < filterCount b → bare l ≡ not s → bare (pick t (part b (bodyStart b k) (stateWidth * bodySize b k)) l) ≡ not (s || t)
 unfolding pick
 among-more b l k s true a h e =
-    let n : 8 * bodySize b k ≡ 0 → ⊥ = omega (arith, a .some k h) in
-    rw (part-long b (bodyStart b k) (8 * bodySize b k) (body-inside b a k h), ne-eqb _ _ n, or-true s)
+    let n : stateWidth * bodySize b k ≡ 0 → ⊥ = omega (arith, a .some k h) in
+    rw (part-long b (bodyStart b k) (stateWidth * bodySize b k) (body-inside b a k h), ne-eqb _ _ n, or-true s)
 among-more b l k s false a h e = rw (or-false s) e
 
 among-bare : (b : List ℕ) (id k : ℕ) → BookAccepted b → k ≤ filterCount b → bare (bodyAmong b id k) ≡ not (someBelow (hasId b id) k)
@@ -70,7 +70,7 @@ rising b j (suc k) a h l =
       | no u ↦ let e : j ≡ k = omega arith in rw e step
     ]
 
-among-at : (b : List ℕ) (k m : ℕ) → BookAccepted b → k < m → m ≤ filterCount b → bodyAmong b (idOf b k) m ≡ part b (bodyStart b k) (8 * bodySize b k)
+among-at : (b : List ℕ) (k m : ℕ) → BookAccepted b → k < m → m ≤ filterCount b → bodyAmong b (idOf b k) m ≡ part b (bodyStart b k) (stateWidth * bodySize b k)
 unfolding bodyAmong
 among-at b k zero a h l = absurd (not-suc-le-zero h)
 among-at b k (suc m) a h l = elim (decLt k m) [
@@ -78,6 +78,6 @@ among-at b k (suc m) a h l = elim (decLt k m) [
   | no u ↦ let e : k ≡ m = omega arith in rw e (pick-true _ _ _ (eq-eqb (idOf b m) (idOf b m) refl))
 ]
 
-pub body-of-filter : (b : List ℕ) (k : ℕ) → bookRefusal b ≡ 0 → k < filterCount b → bodyOf b (idOf b k) ≡ part b (bodyStart b k) (8 * bodySize b k)
+pub body-of-filter : (b : List ℕ) (k : ℕ) → bookRefusal b ≡ 0 → k < filterCount b → bodyOf b (idOf b k) ≡ part b (bodyStart b k) (stateWidth * bodySize b k)
 unfolding bodyOf
 body-of-filter b k ok h = pick-true _ _ _ (eq-eqb _ _ ok) ∙ among-at b k (filterCount b) (accepted b ok) h (omega arith)

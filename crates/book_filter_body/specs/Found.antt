@@ -11,7 +11,8 @@ use Rattle.lists.specs.Choice.{pick}
 use Rattle.lists.specs.Parts.{part}
 use Rattle.lists.specs.Choice.Laws.{pick-true, pick-false, pick-cases}
 use Rattle.lists.specs.Parts.Laws.{part-lent}
-use Rattle.rules.specs.Book.{filterCount, idOf, bodyStart, bodySize, bookRefusal, bodyAmong, bodyOf, nowhere, partAmong, partOf}
+use Rattle.rules.specs.Bytes.{entryAt}
+use Rattle.rules.specs.Book.{stateWidth, filterCount, idOf, bodyStart, bodySize, bookRefusal, bodyAmong, bodyOf, nowhere, partAmong, partOf}
 use Rattle.rules.specs.Book as rules
 use Rattle.book_contents.specs.BookAccepted.{BookAccepted, accepted, body-inside, entry-inside}
 use Rattle.book_filter_body.specs.declared.Part.{Part}
@@ -30,10 +31,10 @@ module _ (b : List ℕ) (id : ℕ) where
   looking-none e = record { within = omega arith; same = ap (partAmong b id) e }
 
   module _ {k : ℕ} (g : Looking b id k) where
-    pub looking-entry : bookRefusal b ≡ 0 → 0 < k → 10 + 8 * (k - 1) ≤ length b
+    pub looking-entry : bookRefusal b ≡ 0 → 0 < k → entryAt (k - 1 + 1) ≤ length b
     looking-entry ok h = entry-inside b (k - 1) ok (omega arith)
 
-    here : 0 < k → partAmong b id (filterCount b) ≡ pick (eqb (idOf b (k - 1)) id) (record { start = bodyStart b (k - 1); length = 8 * bodySize b (k - 1) }) (partAmong b id (k - 1))
+    here : 0 < k → partAmong b id (filterCount b) ≡ pick (eqb (idOf b (k - 1)) id) (record { start = bodyStart b (k - 1); length = stateWidth * bodySize b (k - 1) }) (partAmong b id (k - 1))
     unfolding partAmong
     here h = let e : k ≡ suc (k - 1) = omega arith in sym (g .same) ∙ ap (partAmong b id) e
 
@@ -43,8 +44,8 @@ module _ (b : List ℕ) (id : ℕ) where
       same = sym (here h ∙ pick-false _ _ _ (ne-eqb _ _ (λ q. d (e ∙ q))));
     }
 
-    pub looking-hit : {i s n : ℕ} → 0 < k → i ≡ idOf b (k - 1) → i ≡ id → s ≡ bodyStart b (k - 1) → n ≡ bodySize b (k - 1)
-        → _≡_ {A = rules.Part} (record { start = s; length = 8 * n }) (partAmong b id (filterCount b))
+    pub looking-hit : {i s n : ℕ} → 0 < k → i ≡ idOf b (k - 1) → i ≡ id → s ≡ bodyStart b (k - 1) → n ≡ stateWidth * bodySize b (k - 1)
+        → _≡_ {A = rules.Part} (record { start = s; length = n }) (partAmong b id (filterCount b))
     looking-hit h e d p q = rw (p, q) (sym (here h ∙ pick-true _ _ _ (eq-eqb _ _ (sym e ∙ d))))
 
     pub looking-all : k ≤ 0 → nowhere ≡ partAmong b id (filterCount b)
@@ -80,7 +81,7 @@ among-bytes : (b : List ℕ) (id k : ℕ) → bytesAt b (partAmong b id k) ≡ b
 unfolding partAmong bodyAmong bytesAt part
 among-bytes b id zero = refl
 among-bytes b id (suc k) =
-    through (bytesAt b) (eqb (idOf b k) id) _ (partAmong b id k) ∙ ap (pick (eqb (idOf b k) id) (part b (bodyStart b k) (8 * bodySize b k))) (among-bytes b id k)
+    through (bytesAt b) (eqb (idOf b k) id) _ (partAmong b id k) ∙ ap (pick (eqb (idOf b k) id) (part b (bodyStart b k) (stateWidth * bodySize b k))) (among-bytes b id k)
 
 module _ (b : List ℕ) (id : ℕ) where
   -- "the very bytes of that body inside the book"

@@ -26,7 +26,7 @@ fn look(book: &[u8], id: u64) -> Part
         if book_contents::id_of(book, k) == id {
             return Part {
                 start: book_contents::body_start(book, k),
-                length: 8 * book_contents::body_size(book, k),
+                length: book_contents::body_length(book, k),
             };
         }
     }

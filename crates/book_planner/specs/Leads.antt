@@ -1,8 +1,8 @@
 -- Where the successors of an accepted state lead, numbered through the book.
 use mathlib.Core.Path.{_≡_, refl, sym, _∙_}
-use mathlib.Core.Bool.{Bool, true, false, _&&_, false≢true}
+use mathlib.Core.Bool.{true, false, _&&_, false≢true}
 use mathlib.Core.List.{List}
-use Prim.Native.Nat.{ℕ, zero, suc, _+_, _<_, _≤_}
+use Prim.Native.Nat.{ℕ, zero, suc, _+_, _<_}
 use native.Mathlib.Omega.{arith}
 use lib.Dec.{ltb}
 use lib.ListN.{getD}
@@ -10,7 +10,6 @@ use borrow.Author.Tests.{ltb-true, ne-eqb}
 use Rattle.lists.specs.Choice.{pick}
 use Rattle.lists.specs.Choice.Laws.{both}
 use Rattle.rules.specs.Bytes.{le2}
-use Rattle.rules.specs.State.{State, TRUE, LEAF, AND, OR, NOT, STEP}
 use Rattle.rules.specs.Book.{isRow, leadsWell, rowAt, leadsAt, stateAt}
 use Rattle.rules.specs.Match.Settle.{Higher, Inside}
 
@@ -58,12 +57,3 @@ leads b base at i n (suc (suc (suc (suc (suc (suc k)))))) e r l =
 pub leads-well : (b : List ℕ) (base at i n : ℕ) → rowAt b at ≡ true → leadsAt b at i n ≡ true
     → Higher (stateAt b base at) (base + i) × Inside (stateAt b base at) (base + n)
 leads-well b base at i n r l = leads b base at i n (getD b at 0) refl r l
-
--- inside a part of the book is inside the book
-pub inside-more : (s : State) (m n : ℕ) → m ≤ n → Inside s m → Inside s n
-inside-more TRUE m n h e = tt
-inside-more (LEAF r c) m n h e = tt
-inside-more (AND i j) m n h e = (omega arith, omega arith)
-inside-more (OR i j) m n h e = (omega arith, omega arith)
-inside-more (NOT i) m n h e = omega arith
-inside-more (STEP l s) m n h e = omega arith

@@ -2,4 +2,3 @@
 pub mod Row
 pub mod Leads
 pub mod Make
-pub mod StateCount

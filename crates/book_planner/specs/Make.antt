@@ -5,47 +5,51 @@ use Prim.Native.Nat.{ℕ, suc, _+_, _-_, _*_, _^_, _<_, _≤_}
 use native.Mathlib.Numerals.{add-one}
 use native.Mathlib.Omega.{arith}
 use native.Mathlib.Decide.{decLt, ℕ-discrete}
-use lib.ListN.{length, getD}
+use lib.ListN.{length, getD, take, length-take}
+use lib.Seq.{getD-take}
 use Rattle.lists.specs.Below.{upTo}
 use Rattle.lists.specs.Below.Laws.{upTo-same, upTo-add}
-use Rattle.rules.specs.Book.{filterCount, bodyStart, bodySize, statesBefore, bookRefusal, stateAt, statesOfFirst, statesOf}
+use Rattle.rules.specs.Bytes.{entryAt}
+use Rattle.rules.specs.Book.{mostStates, stateWidth, filterCount, bodyStart, bodySize, statesBefore, bookRefusal, stateAt, statesOfFirst, statesOf}
 use Rattle.rules.specs.Match.Settle.{Higher, Inside}
-use Rattle.book_plan.specs.Plan.{stateIn, statesIn, PlanOf}
+use Rattle.book_plan.specs.Plan.{planWidth, planRoom, stateIn, stateCount, statesIn, Planned, PlanOf, inside-more}
 use Rattle.book_contents.specs.BookAccepted.{BookAccepted, accepted, states-rise, body-inside, table-inside, entry-inside}
 use Rattle.book_planner.specs.Row.{rowIn, row-long, row-before, row-after, row-state}
-use Rattle.book_planner.specs.Leads.{leads-well, inside-more}
+use Rattle.book_planner.specs.Leads.{leads-well}
 
-state-kept : (p q : List ℕ) (n k : ℕ) → ((m : ℕ) → m < 3 * n → getD q m 0 ≡ getD p m 0) → k < n → stateIn q k ≡ stateIn p k
+state-kept : (p q : List ℕ) (n k : ℕ) → ((m : ℕ) → m < planWidth * n → getD q m 0 ≡ getD p m 0) → k < n → stateIn q k ≡ stateIn p k
 unfolding stateIn
-state-kept p q n k f h = rw (f (3 * k) (omega arith), f (3 * k + 1) (omega arith), f (3 * k + 2) (omega arith))
+state-kept p q n k f h = rw (f (planWidth * k) (omega arith), f (planWidth * k + 1) (omega arith), f (planWidth * k + 2) (omega arith))
 
 -- ── one body: i of its states are written, and what stands before and after them is kept ──
 pub record Body (b : List ℕ) (at base : ℕ) (p₀ p : List ℕ) (i : ℕ) : Type 0 where
   pub long : length p ≡ length p₀
-  pub before : (m : ℕ) → m < 3 * base → getD p m 0 ≡ getD p₀ m 0
-  pub past : (m : ℕ) → 3 * (base + i) ≤ m → getD p m 0 ≡ getD p₀ m 0
-  pub done : (k : ℕ) → k < i → stateIn p (base + k) ≡ stateAt b base (at + 8 * k)
-  pub small : (k : ℕ) → k < i → getD p (3 * (base + k) + 2) 0 < 2 ^ 32
+  pub before : (m : ℕ) → m < planWidth * base → getD p m 0 ≡ getD p₀ m 0
+  pub past : (m : ℕ) → planWidth * (base + i) ≤ m → getD p m 0 ≡ getD p₀ m 0
+  pub done : (k : ℕ) → k < i → stateIn p (base + k) ≡ stateAt b base (at + stateWidth * k)
+  pub small : (k : ℕ) → k < i → getD p (planWidth * (base + k) + 2) 0 < 2 ^ 32
 
 module _ (b : List ℕ) (at base : ℕ) where
   pub body-none : (p : List ℕ) → Body b at base p p 0
   body-none p = record { long = refl; before = λ m h. refl; past = λ m h. refl; done = λ k h. absurd (omega arith); small = λ k h. absurd (omega arith) }
 
-  pub body-more : (p₀ p q : List ℕ) (i : ℕ) → Body b at base p₀ p i → 3 * (base + i) + 3 ≤ length p₀ → q ≡ rowIn b (at + 8 * i) base (base + i) p
-      → getD q (3 * (base + i) + 2) 0 < 2 ^ 32 → Body b at base p₀ q (i + 1)
-  body-more p₀ p q i c h e l =
-      let before : (m : ℕ) → m < 3 * (base + i) → getD q m 0 ≡ getD p m 0 = λ m u. rw e (row-before b (at + 8 * i) base (base + i) p m u) in
+  -- the state is read at its place s
+  pub body-more : (p₀ p q : List ℕ) (i s : ℕ) → Body b at base p₀ p i → planWidth * (base + i) + planWidth ≤ length p₀ → s ≡ at + stateWidth * i
+      → q ≡ rowIn b s base (base + i) p → getD q (planWidth * (base + i) + 2) 0 < 2 ^ 32 → Body b at base p₀ q (i + 1)
+  body-more p₀ p q i s c h place d l =
+      let e : q ≡ rowIn b (at + stateWidth * i) base (base + i) p = d ∙ ap (λ (m : ℕ). rowIn b m base (base + i) p) place in
+      let before : (m : ℕ) → m < planWidth * (base + i) → getD q m 0 ≡ getD p m 0 = λ m u. rw e (row-before b (at + stateWidth * i) base (base + i) p m u) in
       record {
-        long = ap length e ∙ row-long b (at + 8 * i) base (base + i) p ∙ c .long;
+        long = ap length e ∙ row-long b (at + stateWidth * i) base (base + i) p ∙ c .long;
         before = λ m u. before m (omega arith) ∙ c .before m u;
-        past = λ m u. rw e (row-after b (at + 8 * i) base (base + i) p m (omega arith)) ∙ c .past m (omega arith);
+        past = λ m u. rw e (row-after b (at + stateWidth * i) base (base + i) p m (omega arith)) ∙ c .past m (omega arith);
         done = λ k u. elim (ℕ-discrete k i) [
-          | yes d ↦ rw (d, e) (row-state b (at + 8 * i) base (base + i) p (rw (c .long) h))
+          | yes d ↦ rw (d, e) (row-state b (at + stateWidth * i) base (base + i) p (rw (c .long) h))
           | no d ↦ state-kept p q (base + i) (base + k) before (omega arith) ∙ c .done k (omega arith)
         ];
         small = λ k u. elim (ℕ-discrete k i) [
           | yes d ↦ rw d l
-          | no d ↦ rw (before (3 * (base + k) + 2) (omega arith)) (c .small k (omega arith))
+          | no d ↦ rw (before (planWidth * (base + k) + 2) (omega arith)) (c .small k (omega arith))
         ];
       }
 
@@ -59,25 +63,26 @@ pub record Making (b : List ℕ) (f : ℕ) (p₀ p : List ℕ) (base i : ℕ) : 
   pub ok : bookRefusal b ≡ 0
   pub filters : f ≡ filterCount b
   pub within : i ≤ f
-  pub room : 1536 ≤ length p
+  pub room : planRoom ≤ length p
   pub long : length p ≡ length p₀
-  pub few : base ≤ 512
+  pub few : base ≤ mostStates
   pub count : base ≡ statesBefore b i
-  pub states : statesIn p base ≡ statesOfFirst b i
+  pub states : upTo (stateIn p) base ≡ statesOfFirst b i
   pub higher : (k : ℕ) → k < base → Higher (stateIn p k) k
   pub inside : (k : ℕ) → k < base → Inside (stateIn p k) base
-  pub small : (k : ℕ) → k < base → getD p (3 * k + 2) 0 < 2 ^ 32
-  pub past : (m : ℕ) → 3 * base ≤ m → getD p m 0 ≡ getD p₀ m 0
+  pub small : (k : ℕ) → k < base → getD p (planWidth * k + 2) 0 < 2 ^ 32
+  pub past : (m : ℕ) → planWidth * base ≤ m → getD p m 0 ≡ getD p₀ m 0
 
--- what `make` promises: the plan of the book, and nothing else of what was lent is touched
-pub record Made (b p₀ p : List ℕ) (n : ℕ) : Type 0 where
-  pub plan : PlanOf p b n
-  pub count : n ≡ statesBefore b (filterCount b)
+-- what `make` promises: the first r numbers of what was lent are the plan of the book, and nothing else there is touched
+pub record Made (b p₀ p : List ℕ) (r : ℕ) : Type 0 where
+  pub plan : PlanOf (take r p) b
+  pub within : r ≤ length p
+  pub count : r ≡ planWidth * statesBefore b (filterCount b)
   pub long : length p ≡ length p₀
-  pub past : (m : ℕ) → 3 * n ≤ m → getD p m 0 ≡ getD p₀ m 0
+  pub past : (m : ℕ) → r ≤ m → getD p m 0 ≡ getD p₀ m 0
 
-pub making-none : (b : List ℕ) (f : ℕ) (p : List ℕ) → bookRefusal b ≡ 0 → f ≡ filterCount b → 1536 ≤ length p → Making b f p p 0 0
-unfolding statesIn upTo statesOfFirst statesBefore
+pub making-none : (b : List ℕ) (f : ℕ) (p : List ℕ) → bookRefusal b ≡ 0 → f ≡ filterCount b → planRoom ≤ length p → Making b f p p 0 0
+unfolding upTo statesOfFirst statesBefore
 making-none b f p ok e h = record {
   ok = ok;
   filters = e;
@@ -100,14 +105,14 @@ module _ (b p₀ p : List ℕ) (f base i : ℕ) (c : Making b f p₀ p base i) (
   l : i < filterCount b
   l = omega (arith, c .filters)
 
-  pub making-entry : 10 + 8 * i ≤ length b
+  pub making-entry : entryAt (i + 1) ≤ length b
   making-entry = entry-inside b i (c .ok) l
 
   module _ {s n : ℕ} (start : s ≡ bodyStart b i) (size : n ≡ bodySize b i) where
-    pub making-few : base + n ≤ 512
+    pub making-few : base + n ≤ mostStates
     making-few = omega (arith, a .states, c .count, states-rise b i (filterCount b) l)
 
-    pub making-room : s + 8 * n ≤ length b
+    pub making-room : s + stateWidth * n ≤ length b
     making-room = omega (arith, body-inside b a i l)
 
     module _ (q : List ℕ) (t : Body b s base p q n) where
@@ -118,13 +123,13 @@ module _ (b p₀ p : List ℕ) (f base i : ℕ) (c : Making b f p₀ p base i) (
       fresh : (j : ℕ) → j < n → Higher (stateIn q (base + j)) (base + j) × Inside (stateIn q (base + j)) (base + n)
       fresh j u =
           let v : j < bodySize b i = omega arith in
-          rw (t .done j u, start, size) (leads-well b base (bodyStart b i + 8 * j) j (bodySize b i) (a .rows i j l v) (a .leads i j l v))
+          rw (t .done j u, start, size) (leads-well b base (bodyStart b i + stateWidth * j) j (bodySize b i) (a .rows i j l v) (a .leads i j l v))
 
-      states-more : statesIn q (base + n) ≡ statesOfFirst b (suc i)
-      unfolding statesIn statesOfFirst
+      states-more : upTo (stateIn q) (base + n) ≡ statesOfFirst b (suc i)
+      unfolding statesOfFirst
       states-more =
           upTo-add (stateIn q) base n
-          ∙ rw (upTo-same (stateIn q) (stateIn p) base old, c .states, upTo-same (λ j. stateIn q (base + j)) (λ j. stateAt b base (s + 8 * j)) n (t .done), start, size, c .count)
+          ∙ rw (upTo-same (stateIn q) (stateIn p) base old, c .states, upTo-same (λ j. stateIn q (base + j)) (λ j. stateAt b base (s + stateWidth * j)) n (t .done), start, size, c .count)
 
       making-suc : Making b f p₀ q (base + n) (suc i)
       unfolding statesBefore
@@ -146,7 +151,7 @@ module _ (b p₀ p : List ℕ) (f base i : ℕ) (c : Making b f p₀ p base i) (
           | no v ↦ let d : base + (k - base) ≡ k = omega arith in rw d at (fresh (k - base) (omega arith) .1)
         ];
         small = λ k u. elim (decLt k base) [
-          | yes v ↦ rw (t .before (3 * k + 2) (omega arith)) (c .small k v)
+          | yes v ↦ rw (t .before (planWidth * k + 2) (omega arith)) (c .small k v)
           | no v ↦ let d : base + (k - base) ≡ k = omega arith in rw d at (t .small (k - base) (omega arith))
         ];
         past = λ m u. t .past m u ∙ c .past m (omega arith);
@@ -155,18 +160,42 @@ module _ (b p₀ p : List ℕ) (f base i : ℕ) (c : Making b f p₀ p base i) (
       pub making-more : Making b f p₀ q (base + n) (i + 1)
       making-more = rw (add-one i) making-suc
 
-pub making-all : (b p₀ p : List ℕ) (f base i : ℕ) → Making b f p₀ p base i → f ≤ i → Made b p₀ p base
-unfolding statesOf
-making-all b p₀ p f base i c h =
-    let e : i ≡ filterCount b = omega (arith, c .filters) in
-    record {
-      plan = record {
-        planned = record { few = c .few; room = omega (arith, c .few, c .room); higher = c .higher; inside = c .inside; small = c .small };
-        states = c .states ∙ ap (statesOfFirst b) e;
-      };
-      count = c .count ∙ ap (statesBefore b) e;
-      long = c .long;
-      past = c .past;
-    }
+-- the plan is as long as its states ask
+module _ (b p₀ p : List ℕ) (f base i : ℕ) (c : Making b f p₀ p base i) where
+  pub making-long : planWidth * base < 2 ^ 64
+  making-long = omega (arith, c .few)
 
-pub ruleset make-laws = (table-inside, making-none, making-entry, making-few, making-room, making-more, making-all)
+  made-count : stateCount (take (planWidth * base) p) ≡ base
+  made-count = rw length-take (omega (arith, c .few, c .room))
+
+  made-same : (m : ℕ) → m < planWidth * base → getD (take (planWidth * base) p) m 0 ≡ getD p m 0
+  made-same m h = getD-take (planWidth * base) p m 0 h
+
+  made-state : (k : ℕ) → k < base → stateIn (take (planWidth * base) p) k ≡ stateIn p k
+  made-state k h = state-kept p (take (planWidth * base) p) base k made-same h
+
+  made-planned : Planned (take (planWidth * base) p)
+  made-planned = record {
+    few = rw made-count (c .few);
+    higher = λ k h. let l : k < base = rw made-count at h in rw (made-state k l) (c .higher k l);
+    inside = λ k h. let l : k < base = rw made-count at h in rw (made-state k l, made-count) (c .inside k l);
+    small = λ k h. let l : k < base = rw made-count at h in rw (made-same (planWidth * k + 2) (omega arith)) (c .small k l);
+  }
+
+  made-states : statesIn (take (planWidth * base) p) ≡ statesOfFirst b i
+  unfolding statesIn
+  made-states = rw made-count (upTo-same (stateIn (take (planWidth * base) p)) (stateIn p) base made-state ∙ c .states)
+
+  pub making-all : f ≤ i → Made b p₀ p (planWidth * base)
+  unfolding statesOf
+  making-all h =
+      let e : i ≡ filterCount b = omega (arith, c .filters) in
+      record {
+        plan = record { planned = made-planned; states = made-states ∙ ap (statesOfFirst b) e };
+        within = omega (arith, c .few, c .room);
+        count = rw (c .count, e);
+        long = c .long;
+        past = c .past;
+      }
+
+pub ruleset make-laws = (table-inside, making-none, making-entry, making-few, making-room, making-more, making-long, making-all)

@@ -1,48 +1,52 @@
 // The plan of an accepted book: each state's 8 bytes decoded once into three numbers, so that no question reads the
 // book again.
-// Its `pub` is for sister crates only: `make` is lent room for 512 states. What a plan is: book_plan/specs/Plan.antt;
-// what `make` promises: Made in specs/Make.antt.
+// Its `pub` is for sister crates only: `make` is lent book_plan::ROOM numbers. What a plan is:
+// book_plan/specs/Plan.antt; what `make` promises: Made in specs/Make.antt.
 ghost use mathlib.Core.Path.{_≡_};
 ghost use Prim.Native.Nat.{_+_, _*_, _^_, _<_, _≤_};
 ghost use lib.ListN.{length, getD};
 ghost use Rattle.lists.specs.Lending.{was, left};
-ghost use Rattle.rules.specs.Book.{bookRefusal};
+ghost use Rattle.rules.specs.Book.{mostStates, stateWidth, bookRefusal};
+ghost use Rattle.book_plan.specs.Plan.{planWidth, planRoom};
 ghost use Rattle.book_planner.specs.Row.{firstNumber, secondNumber, wrote, rowIn};
 ghost use Rattle.book_planner.specs.Make.{Body, Made};
 
 fn first(kind: u64, one: u64, x: u64, base: u64) -> u64
-    requires { ⌜ (x < 65536) × (base ≤ 512) ⌝ }
+    requires { ⌜ (x < 65536) × (base ≤ mostStates) ⌝ }
     ensures { λ r. ⌜ r ≡ firstNumber kind one x base ⌝ }
 {
     if kind == 1 {
         one
-    } else if kind < 5 {
-        base + x
-    } else {
+    } else if kind == 5 {
         x
+    } else {
+        base + x
     }
 }
 
 fn second(kind: u64, y: u64, constant: u64, base: u64) -> u64
-    requires { ⌜ (y < 65536) × (base ≤ 512) × (constant < 2 ^ 32) ⌝ }
+    requires { ⌜ (y < 65536) × (base ≤ mostStates) × (constant < 2 ^ 32) ⌝ }
     ensures { λ r. ⌜ (r ≡ secondNumber kind y constant base) × (r < 2 ^ 32) ⌝ }
 {
     if kind == 1 { constant } else { base + y }
 }
 
 fn write(plan: &mut [u64], k: usize, kind: u64, x: u64, y: u64)
-    requires { ⌜ 3 * k + 3 ≤ length (now plan) ⌝ }
+    requires { ⌜ planWidth * k + planWidth ≤ length (now plan) ⌝ }
     ensures { λ _. ⌜ left plan ≡ wrote (was plan) k kind x y ⌝ }
 {
-    plan[3 * k] = kind;
-    plan[3 * k + 1] = x;
-    plan[3 * k + 2] = y;
+    let a = book_plan::WIDTH * k;
+    plan[a] = kind;
+    plan[a + 1] = x;
+    plan[a + 2] = y;
 }
 
 // State k of the plan, from the 8 bytes at a place of a body whose state 0 is number base of the book.
 fn row(book: &[u8], at: usize, base: usize, k: usize, plan: &mut [u64])
-    requires { ⌜ (at + 8 ≤ length (now book)) × (base ≤ 512) × (3 * k + 3 ≤ length (now plan)) ⌝ }
-    ensures { λ _. ⌜ (left plan ≡ rowIn (was book) at base k (was plan)) × (getD (left plan) (3 * k + 2) 0 < 2 ^ 32) ⌝ }
+    requires { ⌜ (at + stateWidth ≤ length (now book)) × (base ≤ mostStates) ⌝ }
+    requires { ⌜ planWidth * k + planWidth ≤ length (now plan) ⌝ }
+    ensures { λ _. ⌜ left plan ≡ rowIn (was book) at base k (was plan) ⌝ }
+    ensures { λ _. ⌜ getD (left plan) (planWidth * k + 2) 0 < 2 ^ 32 ⌝ }
 {
     let kind = number_bytes::byte(book, at);
     let one = number_bytes::byte(book, at + 1);
@@ -55,19 +59,20 @@ fn row(book: &[u8], at: usize, base: usize, k: usize, plan: &mut [u64])
 }
 
 fn body(book: &[u8], at: usize, base: usize, n: usize, plan: &mut [u64])
-    requires { ⌜ (at + 8 * n ≤ length (now book)) × (base + n ≤ 512) × (1536 ≤ length (now plan)) ⌝ }
+    requires { ⌜ (at + stateWidth * n ≤ length (now book)) × (base + n ≤ mostStates) ⌝ }
+    requires { ⌜ planRoom ≤ length (now plan) ⌝ }
     ensures { λ _. ⌜ Body (was book) at base (was plan) (left plan) n ⌝ }
 {
     let mut i = 0;
     while i < n {
-        row(book, at + 8 * i, base, base + i, plan);
+        row(book, book_contents::state_at(at, i), base, base + i, plan);
         i += 1;
     }
 }
 
-// The number of the book's states is handed back.
+// Handed back is how many of the numbers that are lent the plan takes: a caller lends these on, `&plan[..long]`.
 pub fn make(book: &[u8], plan: &mut [u64]) -> usize
-    requires { ⌜ (bookRefusal (now book) ≡ 0) × (1536 ≤ length (now plan)) ⌝ }
+    requires { ⌜ (bookRefusal (now book) ≡ 0) × (planRoom ≤ length (now plan)) ⌝ }
     ensures { λ r. ⌜ Made (was book) (was plan) (left plan) r ⌝ }
 {
     let f = book_contents::filter_count(book);
@@ -79,5 +84,5 @@ pub fn make(book: &[u8], plan: &mut [u64]) -> usize
         base += n;
         k += 1;
     }
-    base
+    book_plan::WIDTH * base
 }

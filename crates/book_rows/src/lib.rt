@@ -8,7 +8,9 @@ ghost use Prim.Native.Nat.{_+_, _*_, _<_, _≤_};
 ghost use lib.ListN.{length};
 ghost use Rattle.lists.specs.Lending.{was};
 ghost use Rattle.lists.specs.Below.{someBelow};
-ghost use Rattle.rules.specs.Book.{filterCount, bodiesAstray, isRow, leadsWell, rowAt, leadsAt, badRows, badSuccessors};
+ghost use Rattle.rules.specs.Bytes.{entryAt};
+ghost use Rattle.rules.specs.Book.{stateWidth, filterCount, bodiesAstray, isRow, leadsWell, rowAt, leadsAt};
+ghost use Rattle.rules.specs.Book.{badRows, badSuccessors};
 ghost use Rattle.book_rows.specs.Rows.{noRow, astray};
 
 fn is_row(kind: u64, one: u64, x: u64, y: u64, z: u64) -> bool
@@ -38,7 +40,7 @@ fn leads_well(kind: u64, x: u64, y: u64, i: u64, n: u64) -> bool
 }
 
 fn no_row(book: &[u8], at: usize) -> bool
-    requires { ⌜ at + 8 ≤ length (now book) ⌝ }
+    requires { ⌜ at + stateWidth ≤ length (now book) ⌝ }
     ensures { λ r. ⌜ r ≡ not (rowAt (was book) at) ⌝ }
 {
     let x = number_bytes::read2(book, at + 2);
@@ -54,7 +56,7 @@ fn no_row(book: &[u8], at: usize) -> bool
 }
 
 fn leads_astray(book: &[u8], at: usize, i: u64, n: u64) -> bool
-    requires { ⌜ at + 8 ≤ length (now book) ⌝ }
+    requires { ⌜ at + stateWidth ≤ length (now book) ⌝ }
     ensures { λ r. ⌜ r ≡ not (leadsAt (was book) at i n) ⌝ }
 {
     let x = number_bytes::read2(book, at + 2);
@@ -63,12 +65,12 @@ fn leads_astray(book: &[u8], at: usize, i: u64, n: u64) -> bool
 }
 
 fn bad_rows_of(book: &[u8], start: usize, n: usize) -> bool
-    requires { ⌜ start + 8 * n ≤ length (now book) ⌝ }
-    ensures { λ r. ⌜ r ≡ someBelow (noRow (was book) start) n ⌝ }
+    requires { ⌜ start + stateWidth * n ≤ length (now book) ⌝ }
+    ensures { λ r. ⌜ r ≡ someBelow (noRow (was book) start n) n ⌝ }
 {
     let mut i = 0;
     while i < n {
-        if no_row(book, start + 8 * i) {
+        if no_row(book, book_contents::state_at(start, i)) {
             return true;
         }
         i += 1;
@@ -77,12 +79,12 @@ fn bad_rows_of(book: &[u8], start: usize, n: usize) -> bool
 }
 
 fn bad_successors_of(book: &[u8], start: usize, n: usize) -> bool
-    requires { ⌜ start + 8 * n ≤ length (now book) ⌝ }
+    requires { ⌜ start + stateWidth * n ≤ length (now book) ⌝ }
     ensures { λ r. ⌜ r ≡ someBelow (astray (was book) start n) n ⌝ }
 {
     let mut i = 0;
     while i < n {
-        if leads_astray(book, start + 8 * i, i as u64, n as u64) {
+        if leads_astray(book, book_contents::state_at(start, i), i as u64, n as u64) {
             return true;
         }
         i += 1;
@@ -91,7 +93,7 @@ fn bad_successors_of(book: &[u8], start: usize, n: usize) -> bool
 }
 
 pub fn bad_rows(book: &[u8]) -> bool
-    requires { ⌜ (2 + 8 * filterCount (now book) ≤ length (now book)) × (bodiesAstray (now book) ≡ false) ⌝ }
+    requires { ⌜ (entryAt (filterCount (now book)) ≤ length (now book)) × (bodiesAstray (now book) ≡ false) ⌝ }
     ensures { λ r. ⌜ r ≡ badRows (was book) ⌝ }
 {
     let f = book_contents::filter_count(book);
@@ -110,7 +112,7 @@ pub fn bad_rows(book: &[u8]) -> bool
 }
 
 pub fn bad_successors(book: &[u8]) -> bool
-    requires { ⌜ (2 + 8 * filterCount (now book) ≤ length (now book)) × (bodiesAstray (now book) ≡ false) ⌝ }
+    requires { ⌜ (entryAt (filterCount (now book)) ≤ length (now book)) × (bodiesAstray (now book) ≡ false) ⌝ }
     ensures { λ r. ⌜ r ≡ badSuccessors (was book) ⌝ }
 {
     let f = book_contents::filter_count(book);

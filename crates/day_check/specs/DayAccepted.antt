@@ -2,10 +2,8 @@
 use mathlib.Core.Path.{_≡_, refl}
 use mathlib.Core.Bool.{Bool, false, _||_, not}
 use mathlib.Core.List.{List}
-use Prim.Native.Nat.{ℕ, zero, suc, _+_, _-_, _*_, _<_, _≤_}
+use Prim.Native.Nat.{ℕ, _+_, _-_, _<_, _≤_}
 use native.Mathlib.Omega.{arith}
-use native.Mathlib.Nat.{not-suc-le-zero}
-use native.Mathlib.Decide.{decLt}
 use lib.Dec.{eqb, ltb}
 use lib.ListN.{length, take, drop}
 use borrow.Author.Tests.{ltb-false, eqb-true}
@@ -13,19 +11,20 @@ use Rattle.lists.specs.Below.{someBelow}
 use Rattle.lists.specs.Checks.{rowFails}
 use Rattle.lists.specs.Choice.Laws.{neither, not-not}
 use Rattle.lists.specs.Parts.Laws.{part-lent, part-long}
-use Rattle.lists.specs.Below.Laws.{someBelow-each}
+use Rattle.lists.specs.Below.Laws.{someBelow-each, sum-rises}
 use Rattle.lists.specs.Checks.Laws.{none-fails, row-passes}
-use Rattle.rules.specs.DayFile.{messageCount, messageStart, messageLength, bytesBefore, messagePlace, messageBody, dayOff, messagesAstray, dayChecks, dayRefusal}
+use Rattle.rules.specs.Bytes.{entryAt}
+use Rattle.rules.specs.DayFile.{mostMessages, mostDayBytes, messageCount, messageStart, messageLength, bytesBefore, messagePlace, messageBody, dayOff, messagesAstray, dayChecks, dayRefusal}
 
 -- what the check asks of an entry
 abbrev pub strayAt : List ℕ → ℕ → Bool
 strayAt d k = not (eqb (messageStart d k) (messagePlace d k))
 
 -- ── check by check ──
-pub room : (d : List ℕ) → dayOff d ≡ false → (2 ≤ length d) × (2 + 8 * messageCount d ≤ length d) × (length d ≤ 1048576)
+pub room : (d : List ℕ) → dayOff d ≡ false → (2 ≤ length d) × (entryAt (messageCount d) ≤ length d) × (length d ≤ mostDayBytes)
 unfolding dayOff
 room d e =
-    let p = neither (ltb (length d) 2 || ltb (length d) (2 + 8 * messageCount d)) _ e in
+    let p = neither (ltb (length d) 2 || ltb (length d) (entryAt (messageCount d))) _ e in
     let q = neither (ltb (length d) 2) _ (p .0) in
     (ltb-false _ _ (q .0), ltb-false _ _ (q .1), ltb-false _ _ (p .1))
 
@@ -38,17 +37,13 @@ places d e =
 -- ── the bytes before a message ──
 pub bytes-rise : (d : List ℕ) (k n : ℕ) → k < n → bytesBefore d k + messageLength d k ≤ bytesBefore d n
 unfolding bytesBefore
-bytes-rise d k zero h = absurd (not-suc-le-zero h)
-bytes-rise d k (suc n) h = elim (decLt k n) [
-  | yes l ↦ omega (arith, bytes-rise d k n l)
-  | no l ↦ let e : k ≡ n = omega arith in rw e (omega arith)
-]
+bytes-rise d = sum-rises (bytesBefore d) (messageLength d) (λ k. refl)
 
 -- ── the whole ──
 pub record DayAccepted (d : List ℕ) : Type 0 where
-  pub few : messageCount d ≤ 4096
-  pub table : 2 + 8 * messageCount d ≤ length d
-  pub long : length d ≤ 1048576
+  pub few : messageCount d ≤ mostMessages
+  pub table : entryAt (messageCount d) ≤ length d
+  pub long : length d ≤ mostDayBytes
   pub placed : (k : ℕ) → k < messageCount d → messageStart d k ≡ messagePlace d k
   pub whole : length d ≡ messagePlace d (messageCount d)
 
@@ -66,7 +61,7 @@ accepted d e =
 
 -- ── message k: its entry, its part of the file, and how long that is ──
 module _ (d : List ℕ) (k : ℕ) (ok : dayRefusal d ≡ 0) (h : k < messageCount d) where
-  pub entry-inside : 10 + 8 * k ≤ length d
+  pub entry-inside : entryAt (k + 1) ≤ length d
   entry-inside = let a = accepted d ok in omega arith
 
   pub message-inside : {s n : ℕ} → s ≡ messageStart d k → n ≡ messageLength d k → s + n ≤ length d

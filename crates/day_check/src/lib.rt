@@ -4,12 +4,19 @@
 // of the file's own slice.
 // Definitions: rules/specs/DayFile.antt; what acceptance gives: specs/DayAccepted.antt.
 ghost use mathlib.Core.Path.{_≡_};
-ghost use Prim.Native.Nat.{_+_, _*_, _^_, _<_, _≤_};
+ghost use Prim.Native.Nat.{_+_, _^_, _<_, _≤_};
 ghost use lib.ListN.{length};
 ghost use Rattle.lists.specs.Lending.{was};
+ghost use Rattle.rules.specs.Bytes.{entryAt};
 ghost use Rattle.rules.specs.DayFile.{messageCount, messageStart, messageLength, messageBody, dayOff, messagesAstray};
 ghost use Rattle.rules.specs.DayFile.{dayRefusal};
 ghost use Rattle.rules.specs.Promise.{DayPromise};
+
+// A day file has at most so many messages.
+const MESSAGES: usize = 4096;
+
+// And at most so many bytes.
+const BYTES: usize = 1048576;
 
 pub fn message_count(day: &[u8]) -> usize
     requires { ⌜ 2 ≤ length (now day) ⌝ }
@@ -19,17 +26,17 @@ pub fn message_count(day: &[u8]) -> usize
 }
 
 fn message_start(day: &[u8], k: usize) -> usize
-    requires { ⌜ 10 + 8 * k ≤ length (now day) ⌝ }
+    requires { ⌜ entryAt (k + 1) ≤ length (now day) ⌝ }
     ensures { λ r. ⌜ (r ≡ messageStart (was day) k) × (r < 2 ^ 32) ⌝ }
 {
-    number_bytes::read4(day, 2 + 8 * k) as usize
+    number_bytes::read4(day, number_bytes::entry_at(k)) as usize
 }
 
 fn message_length(day: &[u8], k: usize) -> usize
-    requires { ⌜ 10 + 8 * k ≤ length (now day) ⌝ }
+    requires { ⌜ entryAt (k + 1) ≤ length (now day) ⌝ }
     ensures { λ r. ⌜ (r ≡ messageLength (was day) k) × (r < 2 ^ 32) ⌝ }
 {
-    number_bytes::read4(day, 2 + 8 * k + 4) as usize
+    number_bytes::read4(day, number_bytes::entry_at(k) + 4) as usize
 }
 
 fn off(day: &[u8]) -> bool
@@ -38,16 +45,16 @@ fn off(day: &[u8]) -> bool
     if day.len() < 2 {
         return true;
     }
-    (day.len() < 2 + 8 * message_count(day)) | (1048576 < day.len())
+    (day.len() < number_bytes::entry_at(message_count(day))) | (BYTES < day.len())
 }
 
 // `place` is where the next message must start; after the last one it is where the file must end.
 fn messages_astray(day: &[u8]) -> bool
-    requires { ⌜ 2 + 8 * messageCount (now day) ≤ length (now day) ⌝ }
+    requires { ⌜ entryAt (messageCount (now day)) ≤ length (now day) ⌝ }
     ensures { λ r. ⌜ r ≡ messagesAstray (was day) ⌝ }
 {
     let n = message_count(day);
-    let mut place = 2 + 8 * n;
+    let mut place = number_bytes::entry_at(n);
     let mut k = 0;
     while k < n {
         if message_start(day, k) != place {
@@ -65,7 +72,7 @@ pub fn check_day(day: &[u8]) -> u64
     if off(day) {
         return 8;
     }
-    if 4096 < message_count(day) {
+    if MESSAGES < message_count(day) {
         return 9;
     }
     if messages_astray(day) {

@@ -2,58 +2,54 @@
 // sister crates only: day_run has the public calls.
 // Read specs/Passing first: what a call is lent, what one message leaves, and what the loop keeps.
 ghost use mathlib.Core.Path.{_≡_};
-ghost use mathlib.Core.List.{[], _∷_, _++_};
-ghost use Prim.Native.Nat.{_+_, _*_, _<_, _≤_};
-ghost use lib.ListN.{length, drop, replicate};
+ghost use mathlib.Core.List.{[], _∷_};
+ghost use Prim.Native.Nat.{_+_, _*_, _≤_};
+ghost use lib.ListN.{length};
 ghost use Rattle.lists.specs.Lending.{was, left};
 ghost use Rattle.lists.specs.Parts.{patch};
 ghost use Rattle.rules.specs.Book.{bookRefusal};
-ghost use Rattle.rules.specs.DayFile.{messageCount, dayRefusal};
-ghost use Rattle.rules.specs.Run.{passDay};
+ghost use Rattle.rules.specs.DayFile.{messageCount};
+ghost use Rattle.rules.specs.Run.{rowWidth, workspaceWidth, passDay};
 ghost use Rattle.rules.specs.Promise.{lent};
 ghost use Rattle.book_plan.specs.Plan.{PlanOf};
+ghost use Rattle.memory_ask.specs.Ask.{carried};
 ghost use Rattle.memory_index.specs.Index.{Indexed};
-ghost use Rattle.day_pass.specs.Passing.{MessageReady, PassReady, rootFilters, MessageRead, MessageWritten};
-ghost use Rattle.day_pass.specs.Passing.{PassedUpTo, carried, passed};
+ghost use Rattle.day_pass.specs.Passing.{MessageReady, PassReady, rootFilters, MessageRead};
+ghost use Rattle.day_pass.specs.Passing.{MessageWritten, PassedUpTo, passed};
+use memory_ask::Counts;
 
-// The counts asked, worked out anew and filled.
-pub struct Totals {
-    pub asked: u64,
-    pub anew: u64,
-    pub filled: usize,
-}
+// A message's answer numbers: refusal, place, filters.
+pub const ROW: usize = 3;
 
-// A message's three answer numbers, and the counts after it.
+// A message's answer numbers, and the counts after it.
 struct Row {
     refusal: u64,
     place: usize,
     filters: u64,
-    asked: u64,
-    anew: u64,
-    filled: usize,
+    counts: Counts,
 }
 
 // The filters of a message that is read, by the root's set in level 0; a refused message matches none.
-fn root_filters(book: &[u8], plan: &[u64], n: usize, ws: &[u64], refusal: u64) -> u64
+fn root_filters(book: &[u8], plan: &[u64], workspace: &[u64], refusal: u64) -> u64
     requires { ⌜ bookRefusal (now book) ≡ 0 ⌝ }
-    requires { ⌜ PlanOf (now plan) (now book) n ⌝ }
-    requires { ⌜ 650 ≤ length (now ws) ⌝ }
-    ensures { λ r. ⌜ r ≡ rootFilters (was book) (was ws) refusal ⌝ }
+    requires { ⌜ PlanOf (now plan) (now book) ⌝ }
+    requires { ⌜ workspaceWidth ≤ length (now workspace) ⌝ }
+    ensures { λ r. ⌜ r ≡ rootFilters (was book) (was workspace) refusal ⌝ }
 {
     if refusal == 0 {
-        return set_filters::filters(book, plan, n, &ws[0..8]);
+        return set_filters::filters(book, plan, message_levels::set_of(workspace, 0));
     }
     0
 }
 
-// A message's three answer numbers.
+// A message's answer numbers in their place.
 fn write_row(answers: &mut [u64], k: usize, refusal: u64, place: usize, filters: u64)
-    requires { ⌜ 3 * k + 3 ≤ length (now answers) ⌝ }
-    ensures { λ _. ⌜ left answers ≡ patch (was answers) (3 * k) (refusal ∷ place ∷ filters ∷ []) ⌝ }
+    requires { ⌜ rowWidth * k + rowWidth ≤ length (now answers) ⌝ }
+    ensures { λ _. ⌜ left answers ≡ patch (was answers) (rowWidth * k) (refusal ∷ place ∷ filters ∷ []) ⌝ }
 {
     let row = [refusal, place as u64, filters];
-    let a = 3 * k;
-    lists::copy(&mut answers[a..a + 3], &row);
+    let a = ROW * k;
+    lists::copy(&mut answers[a..a + ROW], &row);
 }
 
 // Message k read, and its filters found.
@@ -62,27 +58,27 @@ fn message(
     day: &[u8],
     k: usize,
     plan: &[u64],
-    n: usize,
-    table: &mut [u16],
+    index: &mut [u16],
     memory: &mut [u64],
-    ws: &mut [u64],
-    c: Totals,
+    workspace: &mut [u64],
+    c: Counts,
 ) -> Row
-    requires { ⌜ MessageReady (now book) (now day) k (now plan) n (now table) (now memory) (now ws) c ⌝ }
-    ensures { λ r. ⌜ MessageRead (was book) (was day) k (was memory) (was ws) c r (left memory) (left ws) ⌝ }
-    ensures { λ r. ⌜ Indexed (left table) (left memory) (r .filled) ⌝ }
+    requires { ⌜ MessageReady (now book) (now day) k (now plan) (now index) (now memory) (now workspace) c ⌝ }
+    ensures { λ r. ⌜
+        MessageRead (was book) (was day) k (was memory) (was workspace) c r (left memory) (left workspace)
+        ⌝ }
+    ensures { λ r. ⌜ Indexed (left index) (left memory) (r .counts .filled) ⌝ }
 {
     let body = day_check::message_body(day, k);
-    let e = message_reading::read(body, plan, n, table, memory, ws, c.asked, c.anew, c.filled);
+    let e = message_reading::read(body, plan, index, memory, workspace, c);
     let refusal = e.refusal;
-    let filters = root_filters(book, plan, n, ws, refusal);
+    let filters = root_filters(book, plan, workspace, refusal);
+    let counts = e.counts;
     Row {
         refusal: refusal,
         place: e.place,
         filters: filters,
-        asked: e.asked,
-        anew: e.anew,
-        filled: e.filled,
+        counts: counts,
     }
 }
 
@@ -92,28 +88,24 @@ fn one(
     day: &[u8],
     k: usize,
     plan: &[u64],
-    n: usize,
-    table: &mut [u16],
+    index: &mut [u16],
     memory: &mut [u64],
     answers: &mut [u64],
-    ws: &mut [u64],
-    c: Totals,
-) -> Totals
-    requires { ⌜ MessageReady (now book) (now day) k (now plan) n (now table) (now memory) (now ws) c ⌝ }
-    requires { ⌜ 3 * k + 3 ≤ length (now answers) ⌝ }
+    workspace: &mut [u64],
+    c: Counts,
+) -> Counts
+    requires { ⌜ MessageReady (now book) (now day) k (now plan) (now index) (now memory) (now workspace) c ⌝ }
+    requires { ⌜ rowWidth * k + rowWidth ≤ length (now answers) ⌝ }
     ensures { λ r. ⌜
-        MessageWritten (was book) (was day) k (was memory) (was answers) (was ws) c
-        r (left memory) (left answers) (left ws)
+        MessageWritten (was book) (was day) k (was memory) (was answers) (was workspace) c
+        r (left memory) (left answers) (left workspace)
         ⌝ }
-    ensures { λ r. ⌜ Indexed (left table) (left memory) (r .filled) ⌝ }
+    ensures { λ r. ⌜ Indexed (left index) (left memory) (r .filled) ⌝ }
 {
-    let r = message(book, day, k, plan, n, table, memory, ws, c);
+    let r = message(book, day, k, plan, index, memory, workspace, c);
     write_row(answers, k, r.refusal, r.place, r.filters);
-    Totals {
-        asked: r.asked,
-        anew: r.anew,
-        filled: r.filled,
-    }
+    let next = r.counts;
+    next
 }
 
 // All messages, one after the other, the memory and the counts handed on.
@@ -121,35 +113,29 @@ fn all(
     book: &[u8],
     day: &[u8],
     plan: &[u64],
-    n: usize,
-    table: &mut [u16],
+    index: &mut [u16],
     memory: &mut [u64],
     answers: &mut [u64],
-    ws: &mut [u64],
-    from: Totals,
-) -> Totals
-    requires { ⌜ PassReady (now book) (now day) (now plan) n (now table) (now memory) (now answers) (now ws) from ⌝ }
-    ensures { λ r. ⌜
-        PassedUpTo (was book) (was day) (was memory) (was answers) (was ws) from (messageCount (was day))
-        r (left memory) (left answers) (left ws)
+    workspace: &mut [u64],
+    from: Counts,
+) -> Counts
+    requires { ⌜
+        PassReady (now book) (now day) (now plan) (now index) (now memory) (now answers) (now workspace) from
         ⌝ }
-    ensures { λ r. ⌜ Indexed (left table) (left memory) (r .filled) ⌝ }
+    ensures { λ r. ⌜
+        PassedUpTo (was book) (was day) (was memory) (was answers) (was workspace) from
+        (messageCount (was day)) r (left memory) (left answers) (left workspace)
+        ⌝ }
+    ensures { λ r. ⌜ Indexed (left index) (left memory) (r .filled) ⌝ }
 {
     let count = day_check::message_count(day);
     let mut c = from;
     let mut k = 0;
     while k < count {
-        c = one(book, day, k, plan, n, table, memory, answers, ws, c);
+        c = one(book, day, k, plan, index, memory, answers, workspace, c);
         k += 1;
     }
     c
-}
-
-fn clear_levels(ws: &mut [u64])
-    requires { ⌜ 650 ≤ length (now ws) ⌝ }
-    ensures { λ _. ⌜ left ws ≡ replicate 650 0 ++ drop 650 (was ws) ⌝ }
-{
-    lists::clear(&mut ws[0..650]);
 }
 
 // The whole pass: the messages, then the levels cleared.
@@ -157,17 +143,20 @@ pub fn pass(
     book: &[u8],
     day: &[u8],
     plan: &[u64],
-    n: usize,
-    table: &mut [u16],
+    index: &mut [u16],
     memory: &mut [u64],
     answers: &mut [u64],
-    ws: &mut [u64],
-    from: Totals,
-) -> Totals
-    requires { ⌜ PassReady (now book) (now day) (now plan) n (now table) (now memory) (now answers) (now ws) from ⌝ }
-    ensures { λ r. ⌜ passed r memory answers ws ≡ passDay (lent book day memory answers ws) (carried from memory) ⌝ }
+    workspace: &mut [u64],
+    from: Counts,
+) -> Counts
+    requires { ⌜
+        PassReady (now book) (now day) (now plan) (now index) (now memory) (now answers) (now workspace) from
+        ⌝ }
+    ensures { λ r. ⌜
+        passed r memory answers workspace ≡ passDay (lent book day memory answers workspace) (carried memory from)
+        ⌝ }
 {
-    let c = all(book, day, plan, n, table, memory, answers, ws, from);
-    clear_levels(ws);
+    let c = all(book, day, plan, index, memory, answers, workspace, from);
+    message_levels::clear(workspace);
     c
 }

@@ -8,9 +8,11 @@ use denote.Triple.Both.{Both}
 use Rattle.lists.specs.Lending.{left}
 use Rattle.rules.specs.Book.{bookRefusal}
 use Rattle.rules.specs.DayFile.{messageCount, dayRefusal}
-use Rattle.rules.specs.Run.{Returned}
+use Rattle.rules.specs.Memory.{slotsLent}
+use Rattle.rules.specs.Run.{rowWidth, workspaceWidth, Returned}
+use Rattle.rules.specs.Calls.{countLimit}
 use Rattle.rules.specs.Calls as rules
-use Rattle.day_pass.specs.declared.Totals.{Totals}
+use Rattle.memory_ask.specs.declared.Counts.{Counts}
 use Rattle.day_run.specs.declared.Total.{Total}
 
 -- what a call gives: its result and what it lends back
@@ -23,16 +25,15 @@ abbrev pub returned : {A B C : Type 0} → Total → Both A (RefT (List ℕ)) �
 returned r memory answers workspace = totalReturned r (left memory) (left answers) (left workspace)
 
 -- the counts that the pass starts from, as the definition has them
-abbrev pub totalsOf : Totals → rules.Totals
-totalsOf c = record { asked = c .asked; anew = c .anew; filled = c .filled }
+abbrev pub countsOf : Counts → rules.Counts
+countsOf c = record { asked = c .asked; anew = c .anew; filled = c .filled }
 
 -- what is not refused has
-pub record RunAccepted (book day memory answers ws : List ℕ) (c : Totals) : Type 0 where
+pub record RunAccepted (book day memory answers workspace : List ℕ) (c : Counts) : Type 0 where
   pub reads : bookRefusal book ≡ 0
   pub laid : dayRefusal day ≡ 0
-  pub room : 3 * messageCount day ≤ length answers
-  pub levels : 650 ≤ length ws
-  pub few : c .filled ≤ 4096
-  pub fits : 17 * c .filled ≤ length memory
-  pub asked : c .asked < 9223372036854775808
-  pub anew : c .anew < 9223372036854775808
+  pub room : rowWidth * messageCount day ≤ length answers
+  pub levels : workspaceWidth ≤ length workspace
+  pub lent : c .filled ≤ slotsLent memory
+  pub asked : c .asked < countLimit
+  pub anew : c .anew < countLimit

@@ -2,10 +2,11 @@
 use mathlib.Core.Path.{_≡_, refl, sym, ap, _∙_}
 use mathlib.Core.Bool.{Bool, true, false, _||_}
 use mathlib.Core.List.{List, [], _∷_, _++_}
-use Prim.Native.Nat.{ℕ, zero, suc, _+_, _*_, _<_, _≤_}
+use Prim.Native.Nat.{ℕ, zero, suc, _+_, _-_, _*_, _<_, _≤_}
+use native.Mathlib.Nat.{sub-zero}
 use native.Mathlib.Omega.{arith}
 use lib.Dec.{eqb, ltb, leb}
-use lib.ListN.{length}
+use lib.ListN.{length, take}
 use borrow.Author.Tests.{eq-eqb, ne-eqb, eqb-true, lt-ltb, le-ltb, ltb-false, leb-false}
 use Rattle.lists.specs.Choice.{pick}
 use Rattle.lists.specs.Checks.{Check, firstOf}
@@ -14,15 +15,15 @@ use Rattle.lists.specs.Checks.Laws.{first-fails, first-passes, first-end, first
 use Rattle.rules.specs.Book.{bookChecks, bookRefusal}
 use Rattle.rules.specs.DayFile.{messageCount, dayChecks, dayRefusal}
 use Rattle.rules.specs.Memory.{slotsLent}
-use Rattle.rules.specs.Memory.Laws.{lent-fits}
-use Rattle.rules.specs.Run.{Lent, Returned, lentChecks, runChecks, runRefusal, refusedRun, passDay, atFirst, run}
+use Rattle.rules.specs.Run.{rowWidth, workspaceWidth, Lent, Returned, lentChecks, runChecks, runRefusal, refusedRun, passDay, atFirst, run}
 use Rattle.rules.specs.Run.Laws.{no-zero, run-refused, run-accepted}
-use Rattle.rules.specs.Calls.{totals, totalChecks, passRefusal, passFrom}
+use Rattle.rules.specs.Calls.{countLimit, counts, countChecks, passRefusal, passFrom}
 use Rattle.rules.specs.Calls as rules
 use Rattle.book_planner.specs.Make.{Made}
 use Rattle.book_plan.specs.Plan.{PlanOf}
-use Rattle.day_pass.specs.declared.Totals.{Totals}
-use Rattle.day_pass.specs.Passing.{carriedOf, lentOf, passReturned, day-two}
+use Rattle.memory_ask.specs.declared.Counts.{Counts}
+use Rattle.memory_ask.specs.Ask.{carriedIn}
+use Rattle.day_pass.specs.Passing.{lentOf, passReturned, day-two}
 use Rattle.day_run.specs.declared.Total.{Total}
 use Rattle.day_run.specs.Calls.{totalReturned, RunAccepted}
 
@@ -34,9 +35,9 @@ module _ (l : Lent) where
       ∙ ap (λ (n : ℕ). pick (eqb (firstOf (bookChecks (l .book))) 0) n (firstOf (bookChecks (l .book))))
       (first-join (dayChecks (l .day)) (lentChecks l) refl)
 
-  total-joined : (c : rules.Totals) → passRefusal l c ≡ pick (eqb (runRefusal l) 0) (firstOf (totalChecks l c)) (runRefusal l)
+  total-joined : (c : rules.Counts) → passRefusal l c ≡ pick (eqb (runRefusal l) 0) (firstOf (countChecks l c)) (runRefusal l)
   unfolding passRefusal runRefusal
-  total-joined c = first-join (runChecks l) (totalChecks l c) (no-zero l)
+  total-joined c = first-join (runChecks l) (countChecks l c) (no-zero l)
 
   -- ── the refusals ──
   module _ (b : ℕ) (checked : b ≡ bookRefusal (l .book)) where
@@ -54,13 +55,13 @@ module _ (l : Lent) where
         last : runRefusal l ≡ firstOf (lentChecks l)
         last = later ∙ pick-true _ _ _ (eq-eqb _ _ (sym looked ∙ whole))
 
-        pub refused-answers : length (l .answers) < 3 * n → 11 ≡ runRefusal l
+        pub refused-answers : length (l .answers) < rowWidth * n → 11 ≡ runRefusal l
         refused-answers h = sym (last ∙ first-fails 11 _ _ (lt-ltb _ _ (rw count at h)))
 
-        pub refused-levels : 3 * n ≤ length (l .answers) → length (l .workspace) < 650 → 12 ≡ runRefusal l
+        pub refused-levels : rowWidth * n ≤ length (l .answers) → length (l .workspace) < workspaceWidth → 12 ≡ runRefusal l
         refused-levels h k = sym (last ∙ first-passes 11 _ _ (le-ltb _ _ (rw count at h)) ∙ first-fails 12 _ _ (lt-ltb _ _ k))
 
-        pub refused-none : 3 * n ≤ length (l .answers) → 650 ≤ length (l .workspace) → 0 ≡ runRefusal l
+        pub refused-none : rowWidth * n ≤ length (l .answers) → workspaceWidth ≤ length (l .workspace) → 0 ≡ runRefusal l
         refused-none h k = sym (last ∙ first-passes 11 _ _ (le-ltb _ _ (rw count at h)) ∙ first-passes 12 _ _ (le-ltb _ _ k) ∙ first-end)
 
   -- ── what is not refused ──
@@ -78,7 +79,7 @@ module _ (l : Lent) where
       go zero d = d
       go (suc n) d = absurd (let z : runRefusal l ≡ dayRefusal (l .day) = sym (refused-day (bookRefusal (l .book)) refl (book-passes e) (dayRefusal (l .day)) refl (λ k. omega arith)) in omega arith)
 
-  lent-pass : runRefusal l ≡ 0 → (3 * messageCount (l .day) ≤ length (l .answers)) × (650 ≤ length (l .workspace))
+  lent-pass : runRefusal l ≡ 0 → (rowWidth * messageCount (l .day) ≤ length (l .answers)) × (workspaceWidth ≤ length (l .workspace))
   lent-pass e =
       let f : firstOf (lentChecks l) ≡ 0 = sym (last (bookRefusal (l .book)) refl (book-passes e) (dayRefusal (l .day)) refl (day-passes e) (messageCount (l .day)) refl) ∙ e in
       let one = first-zero 11 _ _ (omega arith) f in
@@ -86,9 +87,8 @@ module _ (l : Lent) where
       (ltb-false _ _ (one .0), ltb-false _ _ (two .0))
 
 module _ (book day memory answers ws : List ℕ) where
-  accepted-with : (c : Totals) → runRefusal (lentOf book day memory answers ws) ≡ 0 → c .filled ≤ slotsLent memory → c .asked < 9223372036854775808 → c .anew < 9223372036854775808 →
+  accepted-with : (c : Counts) → runRefusal (lentOf book day memory answers ws) ≡ 0 → c .filled ≤ slotsLent memory → c .asked < countLimit → c .anew < countLimit →
       RunAccepted book day memory answers ws c
-  unfolding slotsLent
   accepted-with c e f g h =
       let l : Lent = lentOf book day memory answers ws in
       record {
@@ -96,8 +96,7 @@ module _ (book day memory answers ws : List ℕ) where
         laid = day-passes l e;
         room = lent-pass l e .0;
         levels = lent-pass l e .1;
-        few = omega arith;
-        fits = omega (arith, lent-fits memory);
+        lent = f;
         asked = g;
         anew = h;
       }
@@ -107,49 +106,50 @@ module _ (book day memory answers ws : List ℕ) where
     pub run-accepts : n ≡ 0 → RunAccepted book day memory answers ws (record { asked = 0; anew = 0; filled = 0 })
     run-accepts z = accepted-with (record { asked = 0; anew = 0; filled = 0 }) (sym told ∙ z) (omega arith) (omega arith) (omega arith)
 
-    pub run-refuses : (n ≡ 0 → ⊥) → totalReturned (record { refusal = n; asked = 0; anew = 0; filled = 0 }) memory answers ws ≡ run (lentOf book day memory answers ws)
-    run-refuses h = go n told h
+    pub run-refuses : (t : Total) → t ≡ record { refusal = n; asked = 0; anew = 0; filled = 0 } → (n ≡ 0 → ⊥) →
+        totalReturned t memory answers ws ≡ run (lentOf book day memory answers ws)
+    run-refuses t i h = rw i (go n told h)
       where
         go : (k : ℕ) → k ≡ runRefusal (lentOf book day memory answers ws) → (k ≡ 0 → ⊥) →
             totalReturned (record { refusal = k; asked = 0; anew = 0; filled = 0 }) memory answers ws ≡ run (lentOf book day memory answers ws)
         go zero e f = absurd (f refl)
         go (suc k) e f = sym (run-refused (lentOf book day memory answers ws) k (sym e))
 
-    pub run-passes : (c : Totals) (m a w : List ℕ) → n ≡ 0 →
-        passReturned c m a w ≡ passDay (lentOf book day memory answers ws) (carriedOf (record { asked = 0; anew = 0; filled = 0 }) memory) →
-        totalReturned (record { refusal = 0; asked = c .asked; anew = c .anew; filled = c .filled }) m a w ≡ run (lentOf book day memory answers ws)
-    run-passes c m a w z e = e ∙ sym (run-accepted (lentOf book day memory answers ws) (sym told ∙ z))
+    pub run-passes : (c : Counts) (t : Total) (m a w : List ℕ) → n ≡ 0 → t ≡ record { refusal = 0; asked = c .asked; anew = c .anew; filled = c .filled } →
+        passReturned c m a w ≡ passDay (lentOf book day memory answers ws) (carriedIn memory (record { asked = 0; anew = 0; filled = 0 })) →
+        totalReturned t m a w ≡ run (lentOf book day memory answers ws)
+    run-passes c t m a w z i e = rw i (e ∙ sym (run-accepted (lentOf book day memory answers ws) (sym told ∙ z)))
 
   -- ── the pass from filled slots ──
   module _ (asked anew filled : ℕ) where
     abbrev lent : Lent
     lent = lentOf book day memory answers ws
 
-    abbrev from : rules.Totals
-    from = totals asked anew filled
+    abbrev from : rules.Counts
+    from = counts asked anew filled
 
-    abbrev counts : Totals
-    counts = record { asked = asked; anew = anew; filled = filled }
+    abbrev begun : Counts
+    begun = record { asked = asked; anew = anew; filled = filled }
 
     module _ (n : ℕ) (told : n ≡ runRefusal lent) where
       pub from-run : (n ≡ 0 → ⊥) → n ≡ passRefusal lent from
       from-run h = told ∙ sym (total-joined lent from ∙ pick-false _ _ _ (ne-eqb _ _ (λ e. h (told ∙ e))))
 
       module _ (z : n ≡ 0) (s : ℕ) (slots : s ≡ slotsLent memory) where
-        after : passRefusal lent from ≡ firstOf (totalChecks lent from)
+        after : passRefusal lent from ≡ firstOf (countChecks lent from)
         after = total-joined lent from ∙ pick-true _ _ _ (eq-eqb _ _ (sym told ∙ z))
 
         pub from-filled : s < filled → 14 ≡ passRefusal lent from
         from-filled h = sym (after ∙ first-fails 14 _ _ (lt-ltb _ _ (rw slots at h)))
 
         module _ (room : filled ≤ s) where
-          past-filled : passRefusal lent from ≡ firstOf (record { number = 19; fails = leb 9223372036854775808 asked || leb 9223372036854775808 anew } ∷ [])
+          past-filled : passRefusal lent from ≡ firstOf (record { number = 19; fails = leb countLimit asked || leb countLimit anew } ∷ [])
           past-filled = after ∙ first-passes 14 _ _ (le-ltb _ _ (rw slots at room))
 
-          pub from-counts : leb 9223372036854775808 asked || leb 9223372036854775808 anew ≡ true → 19 ≡ passRefusal lent from
+          pub from-counts : leb countLimit asked || leb countLimit anew ≡ true → 19 ≡ passRefusal lent from
           from-counts t = sym (past-filled ∙ first-fails 19 _ _ t)
 
-          pub from-none : leb 9223372036854775808 asked || leb 9223372036854775808 anew ≡ false → 0 ≡ passRefusal lent from
+          pub from-none : leb countLimit asked || leb countLimit anew ≡ false → 0 ≡ passRefusal lent from
           from-none t = sym (past-filled ∙ first-passes 19 _ _ t ∙ first-end)
 
     module _ (n : ℕ) (told : n ≡ passRefusal lent from) where
@@ -160,21 +160,26 @@ module _ (book day memory answers ws : List ℕ) where
           go zero d = d
           go (suc k) d = absurd (let y : runRefusal lent ≡ passRefusal lent from = from-run (runRefusal lent) refl (λ e. omega arith) in omega arith)
 
-      pub from-accepts : n ≡ 0 → RunAccepted book day memory answers ws counts
+      pub from-accepts : n ≡ 0 → RunAccepted book day memory answers ws begun
       from-accepts z =
           let one = first-zero 14 _ _ (omega arith) (sym (after (runRefusal lent) refl (run-passed z) (slotsLent memory) refl) ∙ sym told ∙ z) in
           let two = first-zero 19 _ _ (omega arith) (one .1) in
           let many = neither _ _ (two .0) in
-          accepted-with counts (run-passed z) (ltb-false _ _ (one .0)) (leb-false _ _ (many .0)) (leb-false _ _ (many .1))
+          accepted-with begun (run-passed z) (ltb-false _ _ (one .0)) (leb-false _ _ (many .0)) (leb-false _ _ (many .1))
 
-      pub from-refuses : (n ≡ 0 → ⊥) → totalReturned (record { refusal = n; asked = 0; anew = 0; filled = 0 }) memory answers ws ≡ passFrom lent from
+      pub from-refuses : (t : Total) → t ≡ record { refusal = n; asked = 0; anew = 0; filled = 0 } → (n ≡ 0 → ⊥) →
+          totalReturned t memory answers ws ≡ passFrom lent from
       unfolding passFrom
-      from-refuses h = ap (refusedRun lent) told ∙ sym (pick-false _ _ _ (ne-eqb _ _ (λ e. h (told ∙ e))))
+      from-refuses t i h = rw i (ap (refusedRun lent) told ∙ sym (pick-false _ _ _ (ne-eqb _ _ (λ e. h (told ∙ e)))))
 
-      pub from-passes : (r : Totals) (m a w : List ℕ) → n ≡ 0 → passReturned r m a w ≡ passDay lent (carriedOf counts memory) →
-          totalReturned (record { refusal = 0; asked = r .asked; anew = r .anew; filled = r .filled }) m a w ≡ passFrom lent from
+      pub from-passes : (r : Counts) (t : Total) (m a w : List ℕ) → n ≡ 0 → t ≡ record { refusal = 0; asked = r .asked; anew = r .anew; filled = r .filled } →
+          passReturned r m a w ≡ passDay lent (carriedIn memory begun) → totalReturned t m a w ≡ passFrom lent from
       unfolding passFrom
-      from-passes r m a w z e = e ∙ sym (pick-true _ _ _ (eq-eqb _ _ (sym told ∙ z)))
+      from-passes r t m a w z i e = rw i (e ∙ sym (pick-true _ _ _ (eq-eqb _ _ (sym told ∙ z))))
+
+-- the plan of the book, lent as its part of the room
+pub plan-lent : (book room p : List ℕ) (n : ℕ) → Made book room p n → PlanOf (take (n - 0) p) book
+plan-lent book room p n m = rw (sub-zero n) (m .plan)
 
 pub two-bytes : (d : List ℕ) (n : ℕ) → n ≡ dayRefusal d → n ≡ 0 → 2 ≤ length d
 two-bytes d n e z = day-two d (sym e ∙ z)

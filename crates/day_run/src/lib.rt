@@ -2,15 +2,18 @@
 // run is refused by a number and nothing lent is altered.
 // Promises: rules/specs/Promise.antt, RunPromise and PassPromise; definitions: Run.antt and Calls.antt there.
 ghost use mathlib.Core.Path.{_≡_};
-ghost use Prim.Native.Nat.{_*_, _<_, _≤_};
+ghost use Prim.Native.Nat.{_≤_};
 ghost use lib.ListN.{length};
 ghost use Rattle.lists.specs.Lending.{was, left};
-ghost use Rattle.rules.specs.Run.{Lent, runRefusal, passDay};
-ghost use Rattle.rules.specs.Calls.{totals, passRefusal};
+ghost use Rattle.rules.specs.Run.{runRefusal, passDay};
+ghost use Rattle.rules.specs.Calls.{counts, passRefusal};
 ghost use Rattle.rules.specs.Promise.{lent, RunPromise, PassPromise};
-ghost use Rattle.day_pass.specs.Passing.{carried, passed};
-ghost use Rattle.day_run.specs.Calls.{RunAccepted, returned, totalsOf};
-use day_pass::Totals;
+ghost use Rattle.book_plan.specs.Plan.{planRoom};
+ghost use Rattle.memory_index.specs.Index.{indexRoom};
+ghost use Rattle.memory_ask.specs.Ask.{carried};
+ghost use Rattle.day_pass.specs.Passing.{passed};
+ghost use Rattle.day_run.specs.Calls.{RunAccepted, returned, countsOf};
+use memory_ask::Counts;
 
 // A run's refusal, 0 where it is not refused, and the counts asked, worked out anew and filled.
 #[repr(C)]
@@ -22,8 +25,8 @@ pub struct Total {
 }
 
 // Refusals 1 to 12, in the order of the table.
-fn run_refusal(book: &[u8], day: &[u8], memory: &[u64], answers: &[u64], ws: &[u64]) -> u64
-    ensures { λ r. ⌜ r ≡ runRefusal (lent book day memory answers ws) ⌝ }
+fn run_refusal(book: &[u8], day: &[u8], memory: &[u64], answers: &[u64], workspace: &[u64]) -> u64
+    ensures { λ r. ⌜ r ≡ runRefusal (lent book day memory answers workspace) ⌝ }
 {
     let in_book = book_check::check_book(book);
     if in_book != 0 {
@@ -33,10 +36,10 @@ fn run_refusal(book: &[u8], day: &[u8], memory: &[u64], answers: &[u64], ws: &[u
     if in_day != 0 {
         return in_day;
     }
-    if answers.len() < 3 * day_check::message_count(day) {
+    if answers.len() < day_pass::ROW * day_check::message_count(day) {
         return 11;
     }
-    if ws.len() < 650 {
+    if workspace.len() < message_levels::WORKSPACE {
         return 12;
     }
     0
@@ -48,20 +51,31 @@ fn pass_with(
     book: &[u8],
     day: &[u8],
     plan: &mut [u64],
-    table: &mut [u16],
+    index: &mut [u16],
     memory: &mut [u64],
     answers: &mut [u64],
-    ws: &mut [u64],
-    from: Totals,
-) -> Totals
-    requires { ⌜ RunAccepted (now book) (now day) (now memory) (now answers) (now ws) from ⌝ }
-    requires { ⌜ (1536 ≤ length (now plan)) × (length (now table) ≡ 12288) ⌝ }
-    ensures { λ r. ⌜ passed r memory answers ws ≡ passDay (lent book day memory answers ws) (carried from memory) ⌝ }
+    workspace: &mut [u64],
+    from: Counts,
+) -> Counts
+    requires { ⌜ RunAccepted (now book) (now day) (now memory) (now answers) (now workspace) from ⌝ }
+    requires { ⌜ (planRoom ≤ length (now plan)) × (length (now index) ≡ indexRoom) ⌝ }
+    ensures { λ r. ⌜
+        passed r memory answers workspace ≡ passDay (lent book day memory answers workspace) (carried memory from)
+        ⌝ }
 {
-    let n = book_planner::make(book, plan);
+    let long = book_planner::make(book, plan);
     let filled = from.filled;
-    memory_index::index_all(table, memory, filled);
-    day_pass::pass(book, day, plan, n, table, memory, answers, ws, from)
+    memory_index::index_all(index, memory, filled);
+    day_pass::pass(
+        book,
+        day,
+        &plan[0..long],
+        index,
+        memory,
+        answers,
+        workspace,
+        from,
+    )
 }
 
 // The same with a plan and an index of its own. For the proof's sake apart: a local array can be lent once only.
@@ -70,51 +84,44 @@ fn pass_alone(
     day: &[u8],
     memory: &mut [u64],
     answers: &mut [u64],
-    ws: &mut [u64],
-    from: Totals,
-) -> Totals
-    requires { ⌜ RunAccepted (now book) (now day) (now memory) (now answers) (now ws) from ⌝ }
-    ensures { λ r. ⌜ passed r memory answers ws ≡ passDay (lent book day memory answers ws) (carried from memory) ⌝ }
+    workspace: &mut [u64],
+    from: Counts,
+) -> Counts
+    requires { ⌜ RunAccepted (now book) (now day) (now memory) (now answers) (now workspace) from ⌝ }
+    ensures { λ r. ⌜
+        passed r memory answers workspace ≡ passDay (lent book day memory answers workspace) (carried memory from)
+        ⌝ }
 {
-    let mut plan = [0u64; 1536];
-    let mut table = [0u16; 12288];
+    let mut plan = [0u64; book_plan::ROOM];
+    let mut index = [0u16; memory_index::ROOM];
     pass_with(
         book,
         day,
-        &mut plan[0..1536],
-        &mut table[0..12288],
+        &mut plan[0..book_plan::ROOM],
+        &mut index[0..memory_index::ROOM],
         memory,
         answers,
-        ws,
+        workspace,
         from,
     )
 }
 
-// The run: the refusals, then the pass from no filled slots.
-pub fn run(
-    book: &[u8],
-    day: &[u8],
-    memory: &mut [u64],
-    answers: &mut [u64],
-    ws: &mut [u64],
-) -> Total
-    ensures { λ r. ⌜ RunPromise (lent book day memory answers ws) (returned r memory answers ws) ⌝ }
+// A refused call's result: the number and zero counts.
+fn refused(no: u64) -> Total
+    ensures { λ r. ⌜ r ≡ record { refusal = no; asked = 0; anew = 0; filled = 0 } ⌝ }
 {
-    let no = run_refusal(book, day, memory, answers, ws);
-    if no != 0 {
-        return Total {
-            refusal: no,
-            asked: 0,
-            anew: 0,
-            filled: 0,
-        };
-    }
-    let from = Totals {
+    Total {
+        refusal: no,
         asked: 0,
         anew: 0,
         filled: 0,
-    };
-    let c = pass_alone(book, day, memory, answers, ws, from);
+    }
+}
+
+// The result of a pass that left these counts.
+fn passed_with(c: Counts) -> Total
+    ensures { λ r. ⌜ r ≡ record { refusal = 0; asked = c .asked; anew = c .anew; filled = c .filled } ⌝ }
+{
     Total {
         refusal: 0,
         asked: c.asked,
@@ -123,25 +130,47 @@ pub fn run(
     }
 }
 
+// The run: the refusals, then the pass from no filled slots.
+pub fn run(
+    book: &[u8],
+    day: &[u8],
+    memory: &mut [u64],
+    answers: &mut [u64],
+    workspace: &mut [u64],
+) -> Total
+    ensures { λ r. ⌜ RunPromise (lent book day memory answers workspace) (returned r memory answers workspace) ⌝ }
+{
+    let no = run_refusal(book, day, memory, answers, workspace);
+    if no != 0 {
+        return refused(no);
+    }
+    let from = Counts {
+        asked: 0,
+        anew: 0,
+        filled: 0,
+    };
+    passed_with(pass_alone(book, day, memory, answers, workspace, from))
+}
+
 // The run's refusals, then 14: more slots filled than lent; then 19: a count of 2^63 or more.
 fn pass_refusal(
     book: &[u8],
     day: &[u8],
     memory: &[u64],
     answers: &[u64],
-    ws: &[u64],
-    from: Totals,
+    workspace: &[u64],
+    from: Counts,
 ) -> u64
-    ensures { λ r. ⌜ r ≡ passRefusal (lent book day memory answers ws) (totalsOf from) ⌝ }
+    ensures { λ r. ⌜ r ≡ passRefusal (lent book day memory answers workspace) (countsOf from) ⌝ }
 {
-    let no = run_refusal(book, day, memory, answers, ws);
+    let no = run_refusal(book, day, memory, answers, workspace);
     if no != 0 {
         return no;
     }
     if memory_slots::lent(memory) < from.filled {
         return 14;
     }
-    if (9223372036854775808 <= from.asked) | (9223372036854775808 <= from.anew) {
+    if (memory_ask::LIMIT <= from.asked) | (memory_ask::LIMIT <= from.anew) {
         return 19;
     }
     0
@@ -153,35 +182,24 @@ pub fn pass_from(
     day: &[u8],
     memory: &mut [u64],
     answers: &mut [u64],
-    ws: &mut [u64],
+    workspace: &mut [u64],
     asked: u64,
     anew: u64,
     filled: usize,
 ) -> Total
     ensures { λ r. ⌜
-        PassPromise (lent book day memory answers ws) (totals asked anew filled)
-        (returned r memory answers ws)
+        PassPromise (lent book day memory answers workspace) (counts asked anew filled)
+        (returned r memory answers workspace)
         ⌝ }
 {
-    let from = Totals {
+    let from = Counts {
         asked: asked,
         anew: anew,
         filled: filled,
     };
-    let no = pass_refusal(book, day, memory, answers, ws, from);
+    let no = pass_refusal(book, day, memory, answers, workspace, from);
     if no != 0 {
-        return Total {
-            refusal: no,
-            asked: 0,
-            anew: 0,
-            filled: 0,
-        };
+        return refused(no);
     }
-    let c = pass_alone(book, day, memory, answers, ws, from);
-    Total {
-        refusal: 0,
-        asked: c.asked,
-        anew: c.anew,
-        filled: c.filled,
-    }
+    passed_with(pass_alone(book, day, memory, answers, workspace, from))
 }

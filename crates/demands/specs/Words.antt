@@ -4,12 +4,13 @@ use mathlib.Core.List.{List}
 use Prim.Native.Nat.{ℕ, _+_, _*_, _<_}
 use lib.ListN.{getD, set}
 use Rattle.lists.specs.Parts.{part}
+use Rattle.rules.specs.Book.{Meaning, meaningOf}
 use Rattle.rules.specs.DayFile.{messageCount, messageBody}
 use Rattle.rules.specs.Tree.{Content}
 use Rattle.rules.specs.Asked.{readTree, dayQuestions, firstDifferent}
 use Rattle.rules.specs.Sets.{Question}
 use Rattle.rules.specs.Memory.{slotsLent}
-use Rattle.rules.specs.Run.{Lent, Returned}
+use Rattle.rules.specs.Run.{rowWidth, Lent, Returned}
 use Rattle.rules.specs.Promise.{RunPromise}
 use Rattle.rules.specs.Order.{Reordered}
 use Rattle.rules.specs.ASmallDay as Small
@@ -22,20 +23,24 @@ pub record MessageAnswered (l : Lent) (g : Returned) (k : ℕ) : Type 0 where
 
 -- the three answer numbers of message k; its refusal, its place and its filters
 abbrev pub rowOf : Returned → ℕ → List ℕ
-rowOf g k = part (g .answers) (3 * k) 3
+rowOf g k = part (g .answers) (rowWidth * k) rowWidth
 
 abbrev pub refusalOf : Returned → ℕ → ℕ
-refusalOf g k = getD (g .answers) (3 * k) 0
+refusalOf g k = getD (g .answers) (rowWidth * k) 0
 
 abbrev pub placeFor : Returned → ℕ → ℕ
-placeFor g k = getD (g .answers) (3 * k + 1) 0
+placeFor g k = getD (g .answers) (rowWidth * k + 1) 0
 
 abbrev pub filtersOf : Returned → ℕ → ℕ
-filtersOf g k = getD (g .answers) (3 * k + 2) 0
+filtersOf g k = getD (g .answers) (rowWidth * k + 2) 0
+
+-- what the book means to a message
+abbrev pub meaning : Lent → Meaning
+meaning l = meaningOf (l .book)
 
 -- the root that a message's bytes are read to
-abbrev pub rootOf : List ℕ → Content
-rootOf body = readTree body .root
+abbrev pub rootOf : Meaning → List ℕ → Content
+rootOf b body = readTree b body .root
 
 -- a message with its children, at any depth, in another order
 abbrev pub Permuted : Content → Content → Type 0

@@ -2,7 +2,7 @@
 // hands its arguments on to a call of day_run, memory_question or book_filter_body, and has its promise. A slice is a
 // pointer and then a count.
 ghost use Rattle.lists.specs.Lending.{was};
-ghost use Rattle.rules.specs.Calls.{totals};
+ghost use Rattle.rules.specs.Calls.{counts};
 ghost use Rattle.rules.specs.Promise.{lent, RunPromise, PassPromise, QuestionPromise, PartPromise};
 ghost use Rattle.day_run.specs.Calls.{returned};
 ghost use Rattle.memory_question.specs.Question.{questionLent, questionReturned};
@@ -36,7 +36,7 @@ pub extern "C" fn esquirmell_pass(
     filled: usize,
 ) -> Total
     ensures { λ r. ⌜
-        PassPromise (lent book day memory answers workspace) (totals asked anew filled)
+        PassPromise (lent book day memory answers workspace) (counts asked anew filled)
         (returned r memory answers workspace)
         ⌝ }
 {

@@ -13,11 +13,11 @@ use lib.Seq.{getD-set-same, getD-set-other}
 use borrow.Author.Tests.{eqb-true, eq-eqb, ne-eqb}
 use Rattle.lists.specs.Choice.{pick}
 use Rattle.lists.specs.Same.{sameList}
-use Rattle.rules.specs.Memory.{questionIn, slotQuestion}
+use Rattle.rules.specs.Memory.{questionWidth, mostSlots, questionIn, slotQuestion}
 use Rattle.rules.specs.Asked.Different.{sameList-eq}
 use Rattle.memory_slots.specs.Slots.{nine-of, orElse, or-none, first-more}
-use Rattle.memory_hash.specs.Hash.{hashOf, hash-small}
-use Rattle.memory_index.specs.Index.{firstBy, isNone, isFirst, entered, indexOf}
+use Rattle.memory_hash.specs.Hash.{heads, hashOf, hash-small}
+use Rattle.memory_index.specs.Index.{indexRoom, firstBy, isNone, isFirst, entered, indexOf}
 
 -- slot i is entered at place j: its hash is j, and no slot before it asks its question
 unfoldable pub enters : List ℕ → ℕ → ℕ → Bool
@@ -50,7 +50,7 @@ enters-is m i j e = go (eqb (hashOf (slotQuestion m i)) j) refl e
     go false d x = absurd (false≢true x)
 
 -- ── one slot more, seen from a question of nine numbers ──
-module _ (m w : List ℕ) (long : length w ≡ 9) where
+module _ (m w : List ℕ) (long : length w ≡ questionWidth) where
   abbrev here : ℕ → Option ℕ
   here i = pick (sameList (slotQuestion m i) w) (some i) none
 
@@ -116,11 +116,11 @@ last-enters m (suc k) j i e = go (enters m k j) refl (last-enters m k j i) e
 
 -- ── what the index holds ──
 pub record Chained (x m : List ℕ) (n : ℕ) : Type 0 where
-  pub long : length x ≡ 12288
-  pub head : (j : ℕ) → j < 8192 → getD x j 0 ≡ lastOf m n j
-  pub chain : (i j : ℕ) → i < n → enters m i j ≡ true → getD x (8192 + i) 0 ≡ lastOf m i j
+  pub long : length x ≡ indexRoom
+  pub head : (j : ℕ) → j < heads → getD x j 0 ≡ lastOf m n j
+  pub chain : (i j : ℕ) → i < n → enters m i j ≡ true → getD x (heads + i) 0 ≡ lastOf m i j
 
-chained-none : (m : List ℕ) (k : ℕ) → k ≡ 12288 → Chained (replicate k 0) m 0
+chained-none : (m : List ℕ) (k : ℕ) → k ≡ indexRoom → Chained (replicate k 0) m 0
 unfolding lastOf
 chained-none m k e = record {
   long = length-replicate k 0 ∙ e;
@@ -128,28 +128,28 @@ chained-none m k e = record {
   chain = λ i j h y. absurd (omega arith);
 }
 
-module _ (x m : List ℕ) (n : ℕ) (g : Chained x m n) (room : n < 4096) where
+module _ (x m : List ℕ) (n : ℕ) (g : Chained x m n) (room : n < mostSlots) where
   abbrev hash : ℕ
   hash = hashOf (slotQuestion m n)
 
-  small : hash < 8192
+  small : hash < heads
   small = hash-small (slotQuestion m n)
 
   abbrev next : List ℕ
-  next = set x (8192 + n) (getD x hash 0)
+  next = set x (heads + n) (getD x hash 0)
 
-  enter-head : (j : ℕ) → isFirst m n ≡ true → j < 8192 → getD (set next hash (suc n)) j 0 ≡ lastOf m (suc n) j
+  enter-head : (j : ℕ) → isFirst m n ≡ true → j < heads → getD (set next hash (suc n)) j 0 ≡ lastOf m (suc n) j
   unfolding lastOf pick
   enter-head j f k = elim (ℕ-discrete hash j) [
-    | yes e ↦ rw (enters-first m n j f e, e) (getD-set-same (set x (8192 + n) (getD x j 0)) j (suc n) 0 (simp length-set (omega (arith, g .long))))
+    | yes e ↦ rw (enters-first m n j f e, e) (getD-set-same (set x (heads + n) (getD x j 0)) j (suc n) 0 (simp length-set (omega (arith, g .long))))
     | no e ↦ rw (enters-other m n j e) (getD-set-other next hash j (suc n) 0 (λ y. e (sym y))
-        ∙ getD-set-other x (8192 + n) j _ 0 (λ y. omega arith) ∙ g .head j k)
+        ∙ getD-set-other x (heads + n) j _ 0 (λ y. omega arith) ∙ g .head j k)
   ]
 
-  enter-chain : (i j : ℕ) → i < suc n → enters m i j ≡ true → getD (set next hash (suc n)) (8192 + i) 0 ≡ lastOf m i j
-  enter-chain i j k y = getD-set-other next hash (8192 + i) (suc n) 0 (λ z. omega (arith, small)) ∙ elim (ℕ-discrete i n) [
-    | yes e ↦ rw e (getD-set-same x (8192 + n) _ 0 (omega (arith, g .long)) ∙ g .head hash small ∙ ap (lastOf m n) (enters-is m n j (rw e at y) .0))
-    | no e ↦ getD-set-other x (8192 + n) (8192 + i) _ 0 (λ z. e (omega arith)) ∙ g .chain i j (omega arith) y
+  enter-chain : (i j : ℕ) → i < suc n → enters m i j ≡ true → getD (set next hash (suc n)) (heads + i) 0 ≡ lastOf m i j
+  enter-chain i j k y = getD-set-other next hash (heads + i) (suc n) 0 (λ z. omega (arith, small)) ∙ elim (ℕ-discrete i n) [
+    | yes e ↦ rw e (getD-set-same x (heads + n) _ 0 (omega (arith, g .long)) ∙ g .head hash small ∙ ap (lastOf m n) (enters-is m n j (rw e at y) .0))
+    | no e ↦ getD-set-other x (heads + n) (heads + i) _ 0 (λ z. e (omega arith)) ∙ g .chain i j (omega arith) y
   ]
 
   chained-enter : isFirst m n ≡ true → Chained (entered x n hash) m (suc n)
@@ -171,9 +171,9 @@ module _ (x m : List ℕ) (n : ℕ) (g : Chained x m n) (room : n < 4096) where
     ];
   }
 
-pub chained : (m : List ℕ) (n : ℕ) → n ≤ 4096 → Chained (indexOf m n) m n
+pub chained : (m : List ℕ) (n : ℕ) → n ≤ mostSlots → Chained (indexOf m n) m n
 unfolding indexOf pick
-chained m zero h = chained-none m 12288 refl
+chained m zero h = chained-none m indexRoom refl
 chained m (suc n) h = go (isFirst m n) refl (chained m n (omega arith))
   where
     go : (b : Bool) → isFirst m n ≡ b → Chained (indexOf m n) m n

@@ -7,10 +7,14 @@ use mathlib.Core.Option.{Option, none, some}
 use Prim.Native.Nat.{ℕ, zero, suc, _+_, _*_, _≤_}
 use lib.ListN.{length, getD, set, replicate}
 use Rattle.lists.specs.Choice.{pick}
-use Rattle.rules.specs.Memory.{questionIn, slotQuestion, firstSlot}
-use Rattle.memory_hash.specs.Hash.{hashOf}
+use Rattle.rules.specs.Memory.{slotWidth, mostSlots, questionIn, slotQuestion, firstSlot}
+use Rattle.memory_hash.specs.Hash.{heads, hashOf}
 use Rattle.memory_index.specs.declared.Found.{Found}
 use Rattle.memory_index.specs.declared.Found.the-variants.{At, Nothing}
+
+-- its length: the heads, and then a number a slot
+abbrev pub indexRoom : ℕ
+indexRoom = heads + mostSlots
 
 -- what an answer of `find` means
 unfoldable pub meant : Found → Option ℕ
@@ -31,16 +35,16 @@ isFirst m i = isNone (firstBy m i (slotQuestion m i))
 
 -- the index when slot n becomes the head of the chain at h
 unfoldable pub entered : List ℕ → ℕ → ℕ → List ℕ
-entered x n h = set (set x (8192 + n) (getD x h 0)) h (n + 1)
+entered x n h = set (set x (heads + n) (getD x h 0)) h (n + 1)
 
 -- the index of the first n slots, whatever they hold
 unfoldable pub indexOf : List ℕ → ℕ → List ℕ
-indexOf m zero = replicate 12288 0
+indexOf m zero = replicate indexRoom 0
 indexOf m (suc n) = pick (isFirst m n) (entered (indexOf m n) n (hashOf (slotQuestion m n))) (indexOf m n)
 
 -- x is the index of the first n slots of the memory m; its length and that the slots are lent stand here for arithmetic to find
 pub record Indexed (x m : List ℕ) (n : ℕ) : Type 0 where
-  pub long : length x ≡ 12288
-  pub few : n ≤ 4096
-  pub fits : 17 * n ≤ length m
+  pub long : length x ≡ indexRoom
+  pub few : n ≤ mostSlots
+  pub fits : slotWidth * n ≤ length m
   pub same : x ≡ indexOf m n

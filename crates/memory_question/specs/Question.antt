@@ -1,14 +1,17 @@
 -- What is lent to the inner call and what it gives, as its promise has it, and what a question that is not refused has.
 use mathlib.Core.Path.{_≡_}
 use mathlib.Core.List.{List}
-use Prim.Native.Nat.{ℕ, _*_, _<_, _≤_}
+use Prim.Native.Nat.{ℕ, _<_, _≤_}
 use lib.ListN.{length}
 use denote.Ref.{RefT}
 use denote.Triple.Both.{Both}
 use Rattle.lists.specs.Lending.{was, left}
 use Rattle.rules.specs.Book.{bookRefusal}
-use Rattle.rules.specs.Memory.{Kept}
-use Rattle.rules.specs.Calls.{QuestionLent, QuestionReturned}
+use Rattle.rules.specs.Sets.{setWidth}
+use Rattle.rules.specs.Memory.{questionWidth, slotsLent}
+use Rattle.rules.specs.Calls.{countLimit, QuestionLent, QuestionReturned}
+use Rattle.memory_ask.specs.declared.Counts.{Counts}
+use Rattle.memory_ask.specs.Ask.{countMost}
 use Rattle.memory_question.specs.declared.Answered.{Answered}
 
 -- of the slices of a call: what each held when the call began
@@ -25,10 +28,10 @@ abbrev pub questionReturned : {A B : Type 0} → Answered → Both A (RefT (List
 questionReturned r memory answer = answeredWith r (left memory) (left answer)
 
 -- what an accepted question has
-pub record Answerable (l : QuestionLent) : Type 0 where
-  pub accepted : bookRefusal (l .book) ≡ 0
-  pub nine : length (l .question) ≡ 9
-  pub eight : length (l .room) ≡ 8
-  pub few : l .kept .filled ≤ 4096
-  pub fits : 17 * l .kept .filled ≤ length (l .kept .memory)
-  pub rises : l .kept .anew < 9223372036854775808
+pub record Answerable (book memory : List ℕ) (c : Counts) (q answer : List ℕ) : Type 0 where
+  pub accepted : bookRefusal book ≡ 0
+  pub question : length q ≡ questionWidth
+  pub room : length answer ≡ setWidth
+  pub lent : c .filled ≤ slotsLent memory
+  pub asked : c .asked < countMost
+  pub anew : c .anew < countLimit

@@ -4,14 +4,17 @@
 // `memory_ask::ask`.
 // Its promise: rules/specs/Promise.antt, QuestionPromise; its definition: Calls.antt there.
 ghost use mathlib.Core.Path.{_≡_};
-ghost use Rattle.lists.specs.Lending.{was, left};
+ghost use Rattle.lists.specs.Lending.{was};
 ghost use Rattle.rules.specs.Book.{statesOf};
-ghost use Rattle.rules.specs.Memory.{questionIn, ask};
-ghost use Rattle.memory_ask.specs.Ask.{keptIn, kept, replied};
+ghost use Rattle.rules.specs.Memory.{questionIn};
+ghost use Rattle.rules.specs.Pass.{askNext};
 ghost use Rattle.rules.specs.Calls.{questionRefusal};
 ghost use Rattle.rules.specs.Promise.{QuestionPromise};
+ghost use Rattle.memory_ask.specs.Ask.{carried, replied};
 ghost use Rattle.memory_question.specs.Question.{questionLent, questionReturned, Answerable};
 use memory_ask::Counts;
+use memory_slots::ANSWER;
+use memory_slots::QUESTION;
 
 // The refusal, and the counts for the next question; zero counts where the question is refused.
 #[repr(C)]
@@ -28,13 +31,13 @@ fn refusal_of(book: &[u8], memory: &[u64], c: Counts, q: &[u64], answer: &[u64])
     if no != 0 {
         return no;
     }
-    if (q.len() != 9) | (answer.len() != 8) {
+    if (q.len() != QUESTION) | (answer.len() != ANSWER) {
         return 18;
     }
     if memory_slots::lent(memory) < c.filled {
         return 14;
     }
-    if 9223372036854775808 <= c.anew {
+    if memory_ask::LIMIT <= c.anew {
         return 19;
     }
     0
@@ -42,17 +45,17 @@ fn refusal_of(book: &[u8], memory: &[u64], c: Counts, q: &[u64], answer: &[u64])
 
 // A question to an accepted book.
 fn ask_alone(book: &[u8], memory: &mut [u64], c: Counts, q: &[u64], answer: &mut [u64]) -> Counts
-    requires { ⌜
-        Answerable (record { book = now book; question = now q; room = now answer; kept = keptIn (now memory) c })
+    requires { ⌜ Answerable (now book) (now memory) c (now q) (now answer) ⌝ }
+    ensures { λ r. ⌜
+        replied answer memory r ≡ askNext (statesOf (was book)) (questionIn (was q)) (carried memory c)
         ⌝ }
-    ensures { λ r. ⌜ replied answer memory r ≡ ask (statesOf (was book)) (questionIn (was q)) (kept memory c) ⌝ }
 {
-    let mut plan = [0u64; 1536];
-    let n = book_planner::make(book, &mut plan);
-    let mut table = [0u16; 12288];
+    let mut plan = [0u64; book_plan::ROOM];
+    let long = book_planner::make(book, &mut plan);
+    let mut index = [0u16; memory_index::ROOM];
     let filled = c.filled;
-    memory_index::index_all(&mut table, memory, filled);
-    memory_ask::ask(&plan, n, &mut table, memory, c, q, answer)
+    memory_index::index_all(&mut index, memory, filled);
+    memory_ask::ask(&plan[0..long], &mut index, memory, c, q, answer)
 }
 
 pub fn answer_question(
@@ -68,6 +71,7 @@ pub fn answer_question(
         ⌝ }
 {
     let c = Counts {
+        asked: 0,
         anew: anew,
         filled: filled,
     };

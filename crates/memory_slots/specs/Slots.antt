@@ -1,4 +1,5 @@
--- A question and its nine numbers; the count of slots lent; a slot that is kept, and the slots before it; the first slot that asks.
+-- A memory that has a slot, and one with a slot kept. Then laws: of a question and its nine numbers, of the count of slots lent, of a slot
+-- that is kept and the slots before it, of the first slot that asks.
 use mathlib.Core.Path.{_≡_, refl, sym, ap, _∙_}
 use mathlib.Core.List.{List, _++_, append-assoc}
 use mathlib.Core.Option.{Option, none, some}
@@ -10,44 +11,56 @@ use Rattle.lists.specs.Choice.{pick}
 use Rattle.lists.specs.Parts.{part, patch}
 use Rattle.lists.specs.Parts.Laws.{patch-long, patch-below}
 use Rattle.lists.specs.Same.{sameList}
-use Rattle.rules.specs.Sets.{Question}
-use Rattle.rules.specs.Memory.{nine, questionIn, slotQuestion, slotsLent, firstSlot}
+use Rattle.rules.specs.Sets.{setWidth, Question}
+use Rattle.rules.specs.Memory.{questionWidth, slotWidth, mostSlots, nine, questionIn, slotQuestion, slotsLent, firstSlot}
+
+-- slot i lies in the memory
+abbrev pub hasSlot : List ℕ → ℕ → Type 0
+hasSlot m i = slotWidth * i + slotWidth ≤ length m
+
+-- the memory with a question and its answer in slot i
+abbrev pub withSlot : List ℕ → ℕ → List ℕ → List ℕ → List ℕ
+withSlot m i q a = patch m (slotWidth * i) (q ++ a)
 
 -- nine numbers are those of the question that they ask
-pub nine-of : (w : List ℕ) → length w ≡ 9 → nine (questionIn w) ≡ w
-nine-of w h = sym (take-suc w 8 0 (omega arith)) ∙ take-all 9 w (omega arith)
+pub nine-of : (w : List ℕ) → length w ≡ questionWidth → nine (questionIn w) ≡ w
+nine-of w h = sym (take-suc w setWidth 0 (omega arith)) ∙ take-all questionWidth w (omega arith)
 
 -- ── the count of slots lent ──
-pub lent-less : (m : List ℕ) (n : ℕ) → n ≡ length m / 17 → n < 4096 → n ≡ slotsLent m
+pub lent-less : (m : List ℕ) (n : ℕ) → n ≡ length m / slotWidth → n < mostSlots → n ≡ slotsLent m
 unfolding slotsLent
 lent-less m n e h = omega arith
 
-pub lent-most : (m : List ℕ) (n : ℕ) → n ≡ length m / 17 → 4096 ≤ n → 4096 ≡ slotsLent m
+pub lent-most : (m : List ℕ) (n : ℕ) → n ≡ length m / slotWidth → mostSlots ≤ n → mostSlots ≡ slotsLent m
 unfolding slotsLent
 lent-most m n e h = omega arith
 
--- slots that fit and are at most 4,096 are lent
-pub fits-lent : (m : List ℕ) (n : ℕ) → n ≤ 4096 → 17 * n ≤ length m → n ≤ slotsLent m
+-- slots that are lent are at most 4,096, and lie in the memory
+pub lent-few : (m : List ℕ) (n : ℕ) → n ≤ slotsLent m → n ≤ mostSlots
 unfolding slotsLent
-fits-lent m n h k = omega arith
+lent-few m n h = omega arith
+
+pub lent-has : (m : List ℕ) (n : ℕ) → n < slotsLent m → hasSlot m n
+unfolding slotsLent
+lent-has m n h = omega arith
 
 -- ── a slot that is kept ──
-module _ (m q a : List ℕ) (n : ℕ) (eq : length q ≡ 9) (ea : length a ≡ 8) (fits : 17 * n + 17 ≤ length m) where
-  slot-long : length (q ++ a) ≡ 17
+module _ (m q a : List ℕ) (n : ℕ) (eq : length q ≡ questionWidth) (ea : length a ≡ setWidth) (fits : hasSlot m n) where
+  slot-long : length (q ++ a) ≡ slotWidth
   slot-long = simp length-append (omega arith)
 
-  pub kept-long : length (patch m (17 * n) (q ++ a)) ≡ length m
-  kept-long = patch-long m (17 * n) (q ++ a) (omega (arith, slot-long))
+  pub kept-long : length (withSlot m n q a) ≡ length m
+  kept-long = patch-long m (slotWidth * n) (q ++ a) (omega (arith, slot-long))
 
-  pub kept-asks : slotQuestion (patch m (17 * n) (q ++ a)) n ≡ q
+  pub kept-asks : slotQuestion (withSlot m n q a) n ≡ q
   unfolding slotQuestion part patch
   kept-asks =
-      ap (take 9) (drop-at (take (17 * n) m) _ (17 * n) (length-take-le (17 * n) m (omega arith)) ∙ append-assoc q a _)
-      ∙ take-at q _ 9 eq
+      ap (take questionWidth) (drop-at (take (slotWidth * n) m) _ (slotWidth * n) (length-take-le (slotWidth * n) m (omega arith)) ∙ append-assoc q a _)
+      ∙ take-at q _ questionWidth eq
 
-  pub kept-before : (i : ℕ) → i < n → slotQuestion (patch m (17 * n) (q ++ a)) i ≡ slotQuestion m i
+  pub kept-before : (i : ℕ) → i < n → slotQuestion (withSlot m n q a) i ≡ slotQuestion m i
   unfolding slotQuestion
-  kept-before i h = patch-below m (17 * n) (q ++ a) (omega (arith, slot-long)) (17 * i) 9 (omega arith)
+  kept-before i h = patch-below m (slotWidth * n) (q ++ a) (omega (arith, slot-long)) (slotWidth * i) questionWidth (omega arith)
 
 -- ── the first slot that asks a question ──
 unfoldable pub orElse : Option ℕ → Option ℕ → Option ℕ

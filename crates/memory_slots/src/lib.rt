@@ -1,49 +1,70 @@
-// The slots of the lent memory: the count of slots lent, a slot written, a slot's answer read. Its `pub` is for
-// sister crates only: a caller shows the lengths; `lent` has no premise and is no public call either.
+// The slots of the lent memory: the count of slots lent, a slot written, a slot's question lent, its answer read. No
+// other crate knows where a slot lies or how it is laid out.
+// Its `pub` is for sister crates only: a caller shows the lengths; `lent` has no premise and is no public call either.
 // Definitions: rules/specs/Memory.antt. Read next: memory_index.
 ghost use mathlib.Core.Path.{_≡_};
 ghost use mathlib.Core.List.{_++_};
-ghost use Prim.Native.Nat.{_+_, _*_, _≤_};
+ghost use Prim.Native.Nat.{_≤_};
 ghost use lib.ListN.{length};
 ghost use Rattle.lists.specs.Lending.{was, left};
-ghost use Rattle.lists.specs.Parts.{patch};
-ghost use Rattle.lists.specs.Same.{sameList};
-ghost use Rattle.rules.specs.Memory.{slotAnswer, slotsLent};
+ghost use Rattle.rules.specs.Sets.{setWidth};
+ghost use Rattle.rules.specs.Memory.{questionWidth, slotWidth, mostSlots, slotQuestion, slotAnswer, slotsLent};
+ghost use Rattle.memory_slots.specs.Slots.{hasSlot, withSlot};
+
+// A slot: the question's numbers, then the answer's.
+pub const QUESTION: usize = 9;
+
+pub const ANSWER: usize = 8;
+
+pub const SLOT: usize = QUESTION + ANSWER;
+
+// The most slots that may be filled.
+pub const SLOTS: usize = 4096;
 
 // The count of slots that may be filled.
 pub fn lent(memory: &[u64]) -> usize
-    ensures { λ r. ⌜ (r ≡ slotsLent (was memory)) × (r ≤ 4096) × (17 * r ≤ length (was memory)) ⌝ }
+    ensures { λ r. ⌜ (r ≡ slotsLent (was memory)) × (r ≤ mostSlots) ⌝ }
 {
-    let n = memory.len() / 17;
-    if n < 4096 {
+    let n = memory.len() / SLOT;
+    if n < SLOTS {
         return n;
     }
-    4096
+    SLOTS
 }
 
-// A slot's seventeen numbers: the nine of the question, the eight of the answer.
 fn fill(slot: &mut [u64], q: &[u64], answer: &[u64])
-    requires { ⌜ (length (now slot) ≡ 17) × (length (now q) ≡ 9) × (length (now answer) ≡ 8) ⌝ }
+    requires { ⌜ length (now slot) ≡ slotWidth ⌝ }
+    requires { ⌜ (length (now q) ≡ questionWidth) × (length (now answer) ≡ setWidth) ⌝ }
     ensures { λ _. ⌜ left slot ≡ was q ++ was answer ⌝ }
 {
-    lists::copy(&mut slot[0..9], q);
-    lists::copy(&mut slot[9..], answer);
+    lists::copy(&mut slot[0..QUESTION], q);
+    lists::copy(&mut slot[QUESTION..], answer);
 }
 
 // The question and its answer in slot i.
 pub fn keep(memory: &mut [u64], i: usize, q: &[u64], answer: &[u64])
-    requires { ⌜ (17 * i + 17 ≤ length (now memory)) × (length (now q) ≡ 9) × (length (now answer) ≡ 8) ⌝ }
-    ensures { λ _. ⌜ left memory ≡ patch (was memory) (17 * i) (was q ++ was answer) ⌝ }
+    requires { ⌜ hasSlot (now memory) i ⌝ }
+    requires { ⌜ (length (now q) ≡ questionWidth) × (length (now answer) ≡ setWidth) ⌝ }
+    ensures { λ _. ⌜ left memory ≡ withSlot (was memory) i (was q) (was answer) ⌝ }
 {
-    let a = 17 * i;
-    fill(&mut memory[a..a + 17], q, answer);
+    let a = SLOT * i;
+    fill(&mut memory[a..a + SLOT], q, answer);
+}
+
+// The question that slot i asks.
+pub fn question(memory: &[u64], i: usize) -> &[u64]
+    requires { ⌜ hasSlot (now memory) i ⌝ }
+    ensures { λ r. ⌜ (now r ≡ slotQuestion (was memory) i) × (length (now r) ≡ questionWidth) ⌝ }
+{
+    let a = SLOT * i;
+    &memory[a..a + QUESTION]
 }
 
 // The answer in slot i.
 pub fn recall(memory: &[u64], i: usize, answer: &mut [u64])
-    requires { ⌜ (17 * i + 17 ≤ length (now memory)) × (length (now answer) ≡ 8) ⌝ }
+    requires { ⌜ hasSlot (now memory) i × (length (now answer) ≡ setWidth) ⌝ }
     ensures { λ _. ⌜ left answer ≡ slotAnswer (was memory) i ⌝ }
 {
-    let a = 17 * i + 9;
-    lists::copy(answer, &memory[a..a + 8]);
+    let a = SLOT * i + QUESTION;
+    lists::copy(answer, &memory[a..a + ANSWER]);
 }

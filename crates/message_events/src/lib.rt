@@ -3,28 +3,26 @@
 // message_reading reads whole messages.
 // Read specs/Meant and specs/Step first: what an answer means, and what each event does to all that is lent.
 ghost use mathlib.Core.Path.{_≡_};
-ghost use Prim.Native.Nat.{_+_, _*_, _<_, _≤_};
-ghost use lib.ListN.{length};
+ghost use Prim.Native.Nat.{_+_, _<_};
 ghost use Rattle.lists.specs.Lending.{was, left};
 ghost use Rattle.rules.specs.State.{attribute};
-ghost use Rattle.rules.specs.Value.{textValue};
 ghost use Rattle.rules.specs.Message.{startRefusal, stageAfter};
-ghost use Rattle.book_plan.specs.Plan.{Planned, statesIn};
+ghost use Rattle.rules.specs.Written.{textLimit};
+ghost use Rattle.book_plan.specs.Plan.{Planned, statesIn, meaningIn};
 ghost use Rattle.memory_index.specs.Index.{Indexed};
+ghost use Rattle.memory_ask.specs.Ask.{carriedIn, CanAsk};
+ghost use Rattle.message_levels.specs.Level.{HasLevel};
 ghost use Rattle.message_events.specs.Meant.{meant};
-ghost use Rattle.message_events.specs.Step.{AtEvent, CanAsk, childOpened, startOf, heldBy, textFor, textOf};
+ghost use Rattle.message_events.specs.Step.{AtEvent, childOpened, startOf, heldBy, textFor, textOf};
 ghost use Rattle.message_events.specs.Step.{closeOf, endOf, stepOf, IndexedNext};
 use memory_ask::Counts;
 use number_text::Value;
 
-// How far a message is read: the place of the next event, the starts open, and the counts asked, worked out anew and
-// filled.
+// How far a message is read: the place of the next event, the starts open, and the counts.
 pub struct Reader {
     pub place: usize,
     pub depth: usize,
-    pub asked: u64,
-    pub anew: u64,
-    pub filled: usize,
+    pub counts: Counts,
 }
 
 pub enum Step {
@@ -36,16 +34,16 @@ pub enum Step {
 fn start_refusal(depth: usize, label: u64, stage: u64, x: u64) -> u64
     ensures { λ r. ⌜ r ≡ startRefusal depth label stage x ⌝ }
 {
-    if (x == 0) | (x == 32768) {
+    if (x == book_plan::ANY_ELEMENT) | (x == book_plan::ANY_ATTRIBUTE) {
         return 23;
     }
-    let attribute = 32768 < x;
+    let attribute = book_plan::ANY_ATTRIBUTE < x;
     let misplaced = attribute & ((depth == 0) | !(stage == 0));
     let late = !attribute & ((stage == 2) | ((depth == 0) & (stage == 1)));
-    if (32768 < label) | misplaced | late {
+    if (book_plan::ANY_ATTRIBUTE < label) | misplaced | late {
         return 24;
     }
-    if 64 <= depth {
+    if message_levels::MOST_OPEN <= depth {
         return 25;
     }
     0
@@ -55,32 +53,34 @@ fn start_refusal(depth: usize, label: u64, stage: u64, x: u64) -> u64
 fn stage_after(x: u64, stage: u64) -> u64
     ensures { λ r. ⌜ r ≡ stageAfter (attribute x) stage ⌝ }
 {
-    if 32768 < x { stage } else { 1 }
+    if book_plan::ANY_ATTRIBUTE < x {
+        stage
+    } else {
+        1
+    }
 }
 
 // The parent's stage, then the child's level.
-fn open_child(ws: &mut [u64], d: usize, stage: u64, x: u64)
-    requires { ⌜ (d < 64) × (650 ≤ length (now ws)) ⌝ }
-    ensures { λ _. ⌜ left ws ≡ childOpened (was ws) d stage x ⌝ }
+fn open_child(workspace: &mut [u64], d: usize, stage: u64, x: u64)
+    requires { ⌜ HasLevel (now workspace) (d + 1) ⌝ }
+    ensures { λ _. ⌜ left workspace ≡ childOpened (was workspace) d stage x ⌝ }
 {
-    message_levels::stage_at(ws, d, stage_after(x, stage));
-    message_levels::open_at(ws, d + 1, x);
+    message_levels::stage_at(workspace, d, stage_after(x, stage));
+    message_levels::open_at(workspace, d + 1, x);
 }
 
 // A text's LEAF states are joined to its level; a whole number out of range is refused and changes nothing.
-fn hold(ws: &mut [u64], d: usize, plan: &[u64], n: usize, text: &[u8]) -> bool
-    requires { ⌜ (d < 65) × (650 ≤ length (now ws)) × Planned (now plan) n ⌝ }
-    ensures { λ r. ⌜ (r, left ws) ≡ heldBy (textValue (was text)) (statesIn (was plan) n) (was ws) d ⌝ }
+fn hold(workspace: &mut [u64], d: usize, plan: &[u64], text: &[u8]) -> bool
+    requires { ⌜ HasLevel (now workspace) d × Planned (now plan) ⌝ }
+    ensures { λ r. ⌜
+        (r, left workspace) ≡ heldBy (meaningIn (was plan)) (was text) (was workspace) d
+        ⌝ }
 {
     match number_text::text_value(text) {
         Value::OutOfRange => false,
-        Value::NoNumber => {
-            message_levels::stage_at(ws, d, 2);
-            true
-        }
-        Value::Number(z) => {
-            message_levels::leaves_at(ws, d, plan, n, z);
-            message_levels::stage_at(ws, d, 2);
+        value => {
+            message_levels::leaves_at(workspace, d, plan, value);
+            message_levels::stage_at(workspace, d, 2);
             true
         }
     }
@@ -88,33 +88,33 @@ fn hold(ws: &mut [u64], d: usize, plan: &[u64], n: usize, text: &[u8]) -> bool
 
 // The question of level d is asked once, and the answer joined to the level under it as it stands.
 fn close(
-    ws: &mut [u64],
+    workspace: &mut [u64],
     d: usize,
     plan: &[u64],
-    n: usize,
-    table: &mut [u16],
+    index: &mut [u16],
     memory: &mut [u64],
     c: Counts,
 ) -> Counts
-    requires { ⌜ (0 < d) × (d < 65) × (650 ≤ length (now ws)) ⌝ }
-    requires { ⌜ Planned (now plan) n ⌝ }
-    requires { ⌜ Indexed (now table) (now memory) (c .filled) ⌝ }
-    requires { ⌜ c .anew < 18446744073709551615 ⌝ }
-    ensures { λ r. ⌜ (r, left ws, left memory) ≡ closeOf (statesIn (was plan) n) (was ws) d (was memory) c ⌝ }
-    ensures { λ r. ⌜ Indexed (left table) (left memory) (r .filled) ⌝ }
+    requires { ⌜ (0 < d) × HasLevel (now workspace) d ⌝ }
+    requires { ⌜ CanAsk (now plan) (now index) (now memory) c ⌝ }
+    ensures { λ r. ⌜
+        (left workspace, carriedIn (left memory) r)
+        ≡ closeOf (statesIn (was plan)) (was workspace) d (carriedIn (was memory) c)
+        ⌝ }
+    ensures { λ r. ⌜ Indexed (left index) (left memory) (r .filled) ⌝ }
 {
-    let a = 10 * d;
-    let mut answer = [0u64; 8];
-    let next = memory_ask::ask(plan, n, table, memory, c, &ws[a..a + 9], &mut answer);
-    message_levels::join_at(ws, d - 1, &answer);
+    let mut answer = [0u64; set_bits::WIDTH];
+    let question = message_levels::question_of(workspace, d);
+    let next = memory_ask::ask(plan, index, memory, c, question, &mut answer);
+    message_levels::join_at(workspace, d - 1, &answer);
     next
 }
 
 impl Reader {
     // 1, label (2 bytes)
-    pub fn start(self, body: &[u8], ws: &mut [u64]) -> Step
-        requires { ⌜ AtEvent (now body) (now ws) self ⌝ }
-        ensures { λ r. ⌜ (meant r, left ws) ≡ startOf (was body) (was ws) self ⌝ }
+    pub fn start(self, body: &[u8], workspace: &mut [u64]) -> Step
+        requires { ⌜ AtEvent (now body) (now workspace) self ⌝ }
+        ensures { λ r. ⌜ (meant r, left workspace) ≡ startOf (was body) (was workspace) self ⌝ }
     {
         let at = self.place;
         let depth = self.depth;
@@ -122,60 +122,56 @@ impl Reader {
             return Step::Refused(22, at);
         }
         let x = number_bytes::read2(body, at + 1);
-        let a = 10 * depth;
-        let stage = ws[a + 9];
-        let e = start_refusal(depth, ws[a + 8], stage, x);
+        let label = message_levels::label_of(workspace, depth);
+        let stage = message_levels::stage_of(workspace, depth);
+        let e = start_refusal(depth, label, stage, x);
         if e != 0 {
             return Step::Refused(e, at);
         }
-        open_child(ws, depth, stage, x);
-        Step::Next(Reader {
-            place: at + 3,
-            depth: depth + 1,
-            asked: self.asked,
-            anew: self.anew,
-            filled: self.filled,
-        })
+        open_child(workspace, depth, stage, x);
+        let mut next = self;
+        next.place = at + 3;
+        next.depth = depth + 1;
+        Step::Next(next)
     }
 
     // A text of k bytes. For the proof's sake apart from `text`: it speaks of k, and not of the byte that holds k.
-    fn text_for(self, body: &[u8], k: usize, plan: &[u64], n: usize, ws: &mut [u64]) -> Step
-        requires { ⌜ AtEvent (now body) (now ws) self × (k < 256) × Planned (now plan) n ⌝ }
-        ensures { λ r. ⌜ (meant r, left ws) ≡ textFor k (was body) (statesIn (was plan) n) (was ws) self ⌝ }
+    fn text_for(self, body: &[u8], k: usize, plan: &[u64], workspace: &mut [u64]) -> Step
+        requires { ⌜ AtEvent (now body) (now workspace) self × (k < textLimit) × Planned (now plan) ⌝ }
+        ensures { λ r. ⌜
+            (meant r, left workspace) ≡ textFor k (was body) (meaningIn (was plan)) (was workspace) self
+            ⌝ }
     {
         let at = self.place;
         let depth = self.depth;
         if body.len() - at < k + 2 {
             return Step::Refused(22, at);
         }
-        let a = 10 * depth;
-        if (depth == 0) | !(ws[a + 9] == 0) {
+        if (depth == 0) | !(message_levels::stage_of(workspace, depth) == 0) {
             return Step::Refused(26, at);
         }
         let from = at + 2;
-        if hold(ws, depth, plan, n, &body[from..from + k]) {
-            return Step::Next(Reader {
-                place: at + (k + 2),
-                depth: depth,
-                asked: self.asked,
-                anew: self.anew,
-                filled: self.filled,
-            });
+        if hold(workspace, depth, plan, &body[from..from + k]) {
+            let mut next = self;
+            next.place = at + (k + 2);
+            return Step::Next(next);
         }
         Step::Refused(27, at)
     }
 
     // 2, length (1 byte), that many bytes
-    pub fn text(self, body: &[u8], plan: &[u64], n: usize, ws: &mut [u64]) -> Step
-        requires { ⌜ AtEvent (now body) (now ws) self × Planned (now plan) n ⌝ }
-        ensures { λ r. ⌜ (meant r, left ws) ≡ textOf (was body) (statesIn (was plan) n) (was ws) self ⌝ }
+    pub fn text(self, body: &[u8], plan: &[u64], workspace: &mut [u64]) -> Step
+        requires { ⌜ AtEvent (now body) (now workspace) self × Planned (now plan) ⌝ }
+        ensures { λ r. ⌜
+            (meant r, left workspace) ≡ textOf (was body) (meaningIn (was plan)) (was workspace) self
+            ⌝ }
     {
         let at = self.place;
         if body.len() - at < 2 {
             return Step::Refused(22, at);
         }
         let k = number_bytes::byte(body, at + 1);
-        self.text_for(body, k as usize, plan, n, ws)
+        self.text_for(body, k as usize, plan, workspace)
     }
 
     // 3, label (2 bytes)
@@ -183,17 +179,17 @@ impl Reader {
         self,
         body: &[u8],
         plan: &[u64],
-        n: usize,
-        table: &mut [u16],
+        index: &mut [u16],
         memory: &mut [u64],
-        ws: &mut [u64],
+        workspace: &mut [u64],
     ) -> Step
-        requires { ⌜ AtEvent (now body) (now ws) self ⌝ }
-        requires { ⌜ CanAsk (now plan) n (now table) (now memory) self ⌝ }
+        requires { ⌜ AtEvent (now body) (now workspace) self ⌝ }
+        requires { ⌜ CanAsk (now plan) (now index) (now memory) (self .counts) ⌝ }
         ensures { λ r. ⌜
-            (meant r, left ws, left memory) ≡ endOf (was body) (statesIn (was plan) n) (was ws) (was memory) self
+            (meant r, left workspace, left memory)
+            ≡ endOf (was body) (meaningIn (was plan)) (was workspace) (was memory) self
             ⌝ }
-        ensures { λ r. ⌜ IndexedNext (left table) (left memory) (self .filled) (meant r) ⌝ }
+        ensures { λ r. ⌜ IndexedNext (left index) (left memory) (self .counts .filled) (meant r) ⌝ }
     {
         let at = self.place;
         let depth = self.depth;
@@ -203,21 +199,15 @@ impl Reader {
         if depth == 0 {
             return Step::Refused(28, at);
         }
-        let a = 10 * depth;
-        if number_bytes::read2(body, at + 1) != ws[a + 8] {
+        if number_bytes::read2(body, at + 1) != message_levels::label_of(workspace, depth) {
             return Step::Refused(28, at);
         }
-        let c = Counts {
-            anew: self.anew,
-            filled: self.filled,
-        };
-        let next = close(ws, depth, plan, n, table, memory, c);
+        let c = self.counts;
+        let counts = close(workspace, depth, plan, index, memory, c);
         Step::Next(Reader {
             place: at + 3,
             depth: depth - 1,
-            asked: self.asked + 1,
-            anew: next.anew,
-            filled: next.filled,
+            counts: counts,
         })
     }
 
@@ -226,28 +216,28 @@ impl Reader {
         self,
         body: &[u8],
         plan: &[u64],
-        n: usize,
-        table: &mut [u16],
+        index: &mut [u16],
         memory: &mut [u64],
-        ws: &mut [u64],
+        workspace: &mut [u64],
     ) -> Step
-        requires { ⌜ AtEvent (now body) (now ws) self ⌝ }
-        requires { ⌜ CanAsk (now plan) n (now table) (now memory) self ⌝ }
+        requires { ⌜ AtEvent (now body) (now workspace) self ⌝ }
+        requires { ⌜ CanAsk (now plan) (now index) (now memory) (self .counts) ⌝ }
         ensures { λ r. ⌜
-            (meant r, left ws, left memory) ≡ stepOf (was body) (statesIn (was plan) n) (was ws) (was memory) self
+            (meant r, left workspace, left memory)
+            ≡ stepOf (was body) (meaningIn (was plan)) (was workspace) (was memory) self
             ⌝ }
-        ensures { λ r. ⌜ IndexedNext (left table) (left memory) (self .filled) (meant r) ⌝ }
+        ensures { λ r. ⌜ IndexedNext (left index) (left memory) (self .counts .filled) (meant r) ⌝ }
     {
         let at = self.place;
         let kind = body[at];
         if kind == 1 {
-            return self.start(body, ws);
+            return self.start(body, workspace);
         }
         if kind == 2 {
-            return self.text(body, plan, n, ws);
+            return self.text(body, plan, workspace);
         }
         if kind == 3 {
-            return self.end(body, plan, n, table, memory, ws);
+            return self.end(body, plan, index, memory, workspace);
         }
         Step::Refused(21, at)
     }

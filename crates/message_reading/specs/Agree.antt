@@ -1,54 +1,47 @@
 -- What an event does in the workspace and the memory is what the rules say that it does.
 use mathlib.Core.Path.{_≡_, refl, sym, _∙_, ap, ap₂}
-use mathlib.Core.Bool.{Bool, true, false, _||_, _&&_, not}
-use mathlib.Core.List.{List, [], _∷_, _++_}
-use Prim.Native.Nat.{ℕ, zero, suc, _+_, _-_, _*_, _<_, _≤_}
+use mathlib.Core.Bool.{Bool, true, false, _||_, not}
+use mathlib.Core.List.{List, [], _∷_}
+use Prim.Native.Nat.{ℕ, zero, suc, _+_, _-_, _<_, _≤_}
 use native.Mathlib.Numerals.{add-one}
 use native.Mathlib.Omega.{arith}
-use native.Mathlib.Decide.{decLt}
-use lib.Dec.{eqb, ltb, leb}
-use lib.ListN.{length, getD, take, drop, set, length-take, length-drop, length-set, drop-of-length-le}
-use lib.Seq.{getD-append-add, drop-cons, drop-drop, getD-take, getD-drop, getD-set-same, getD-set-other, take-take, take-set-le, take-at, length-take-le}
-use borrow.Author.Tests.{lt-ltb, le-ltb, le-leb, lt-leb, eq-eqb, ne-eqb, ltb-true, ltb-false, eqb-true, eqb-false}
+use lib.Dec.{eqb, leb}
+use lib.ListN.{length, getD, take, drop, length-drop}
+use lib.Seq.{drop-cons}
+use borrow.Author.Tests.{le-ltb, le-leb, lt-leb, eqb-true, eqb-false}
 use Rattle.lists.specs.Choice.{pick}
-use Rattle.lists.specs.Parts.{part, patch}
-use Rattle.lists.specs.Checks.{firstOf}
-use Rattle.lists.specs.Choice.Laws.{pick-cases}
-use Rattle.lists.specs.Parts.Laws.{part-long}
+use Rattle.lists.specs.Parts.{part}
 use Rattle.lists.specs.Checks.Laws.{first-fails, first-passes, first-end}
+use Rattle.rules.specs.Book.{Meaning, outOfRange}
 use Rattle.rules.specs.Bytes.{le2}
 use Rattle.rules.specs.State.{State, attribute}
-use Rattle.rules.specs.Value.{Value, textValue}
-use Rattle.rules.specs.Message.{Event, start, end, text, First, bad, got, labelled, texted, firstEvent, Level, Reading, Keeper, startRefusal, isOut, textRefusal, endRefusal, lastRefusal, stageAfter, Next, refused, on, Outcome, unless, outcome, onStart, onText, onEnd, shutInto, onEvent, events}
-use Rattle.rules.specs.Sets.{either, leavesOf, noStates, Question}
-use Rattle.rules.specs.Sets.Laws.{either-long}
-use Rattle.rules.specs.Memory.{Kept, Reply, questionIn, ask}
-use Rattle.rules.specs.Pass.{Carried, asking}
-use Rattle.message_levels.specs.Level.{levelAt, withLevel, opened, staged, joined, opened-long, staged-long, joined-long, with-long, same-level, lower-level}
-use Rattle.memory_ask.specs.declared.Counts.{Counts}
+use Rattle.rules.specs.Message.{Event, start, end, text, bad, got, labelled, texted, Level, Reading, startRefusal, textRefusal, endRefusal, stageAfter, Next, refused, on, unless, onStart, onText, onEnd, shutInto}
+use Rattle.rules.specs.Sets.{either, leavesOf, noStates}
+use Rattle.rules.specs.Memory.{questionIn}
+use Rattle.rules.specs.Pass.{Carried, askNext, asking}
+use Rattle.message_levels.specs.Level.{HasLevel, OneLevel, labelIn, stageIn, setAt, questionAt, levelOf, openedAt, stagedAt, joinedAt}
+use Rattle.message_levels.specs.Laws.{opened-one, staged-one, joined-one, opened-holds, staged-holds, joined-holds, other-holds, has-still, question-is}
+use Rattle.memory_ask.specs.Ask.{carriedIn}
 use Rattle.message_events.specs.declared.Reader.{Reader}
 use Rattle.message_events.specs.Meant.{Stepped, goesOn, refusedAt}
-use Rattle.message_events.specs.Step.{labelIn, stageIn, past, childOpened, startBy, startFor, startOf, heldBy, textStep, textFor, textOf, closeOf, endStep, countsOf, endOf, beside, stepOf}
+use Rattle.message_events.specs.Step.{childOpened, startBy, startFor, heldBy, textStep, textFor, closeOf, countsIn, ended, endOf}
 use Rattle.message_events.specs.Laws.{start-room, end-none, end-other, end-own}
 
 -- ── the reading that the workspace, the memory and the reader's state hold ──
-abbrev pub levelIn : List ℕ → Level (List ℕ)
-levelIn l = record { label = getD l 8 0; stage = getD l 9 0; held = take 8 l }
-
 -- the levels under level d, the innermost first
 unfoldable pub levelsUnder : List ℕ → ℕ → List (Level (List ℕ))
 levelsUnder ws zero = []
-levelsUnder ws (suc d) = levelIn (levelAt ws d) ∷ levelsUnder ws d
-
-abbrev pub carriedBy : Reader → List ℕ → Carried
-carriedBy s m = record { asked = s .asked; kept = record { memory = m; anew = s .anew; filled = s .filled } }
+levelsUnder ws (suc d) = levelOf ws d ∷ levelsUnder ws d
 
 unfoldable pub readingOf : List ℕ → List ℕ → Reader → Reading (List ℕ) Carried
-readingOf ws m s = record { place = s .place; top = levelIn (levelAt ws (s .depth)); under = levelsUnder ws (s .depth); state = carriedBy s m }
+readingOf ws m s = record { place = s .place; top = levelOf ws (s .depth); under = levelsUnder ws (s .depth); state = carriedIn m (s .counts) }
 
 abbrev pub nextOf : Stepped → List ℕ → List ℕ → Next (List ℕ) Carried
 nextOf (goesOn t) ws m = on (readingOf ws m t)
 nextOf (refusedAt e p) ws m = refused e
+
+abbrev ending : Stepped × List ℕ × List ℕ → Next (List ℕ) Carried
+ending y = nextOf (y .0) (y .1) (y .2)
 
 -- ── levels ──
 pub under-long : (ws : List ℕ) (d : ℕ) → length (levelsUnder ws d) ≡ d
@@ -56,45 +49,14 @@ unfolding levelsUnder
 under-long ws zero = refl
 under-long ws (suc d) = ap suc (under-long ws d)
 
-under-more : (ws : List ℕ) (d : ℕ) → levelsUnder ws (d + 1) ≡ levelIn (levelAt ws d) ∷ levelsUnder ws d
+under-more : (ws : List ℕ) (d : ℕ) → levelsUnder ws (d + 1) ≡ levelOf ws d ∷ levelsUnder ws d
 unfolding levelsUnder
 under-more ws d = rw (add-one d) refl
 
-under-same : (ws w : List ℕ) (d : ℕ) → ((e : ℕ) → e < d → levelAt w e ≡ levelAt ws e) → levelsUnder w d ≡ levelsUnder ws d
+under-same : (ws w : List ℕ) (d : ℕ) → ((e : ℕ) → e < d → levelOf w e ≡ levelOf ws e) → levelsUnder w d ≡ levelsUnder ws d
 unfolding levelsUnder
 under-same ws w zero f = refl
-under-same ws w (suc d) f = ap₂ (λ x l. levelIn x ∷ l) (f d (omega arith)) (under-same ws w d (λ e h. f e (omega arith)))
-
-pub level-at : (ws : List ℕ) (d i : ℕ) → i < 10 → getD (levelAt ws d) i 0 ≡ getD ws (10 * d + i) 0
-unfolding part
-level-at ws d i h = getD-take 10 (drop (10 * d) ws) i 0 h ∙ getD-drop (10 * d) ws i 0
-
-opened-level : (x : ℕ) → levelIn (opened x) ≡ record { label = x; stage = 0; held = noStates }
-unfolding opened
-opened-level x = refl
-
-staged-level : (l : List ℕ) (t : ℕ) → length l ≡ 10 → levelIn (staged l t) ≡ record { label = getD l 8 0; stage = t; held = take 8 l }
-unfolding staged
-staged-level l t h =
-    let a : getD (set l 9 t) 8 0 ≡ getD l 8 0 = getD-set-other l 9 8 t 0 (λ e. omega arith) in
-    let b : getD (set l 9 t) 9 0 ≡ t = getD-set-same l 9 t 0 (omega arith) in
-    rw (a, b, take-set-le 8 l 9 t (omega arith))
-
-joined-label : (l a : List ℕ) (i : ℕ) → length l ≡ 10 → 8 ≤ i → getD (joined l a) i 0 ≡ getD l i 0
-unfolding joined
-joined-label l a i h k =
-    let e : length (either (take 8 l) a) + (i - 8) ≡ i = rw either-long (omega arith) in
-    let f : 8 + (i - 8) ≡ i = omega arith in
-    ap (λ (j : ℕ). getD (either (take 8 l) a ++ drop 8 l) j 0) (sym e)
-    ∙ getD-append-add (either (take 8 l) a) (drop 8 l) (i - 8) 0 ∙ getD-drop 8 l (i - 8) 0 ∙ ap (λ (j : ℕ). getD l j 0) f
-
-joined-level : (l a : List ℕ) → length l ≡ 10 → levelIn (joined l a) ≡ record { label = getD l 8 0; stage = getD l 9 0; held = either (take 8 l) a }
-joined-level l a h =
-    let t : take 8 (joined l a) ≡ either (take 8 l) a = eight l a in
-    rw (joined-label l a 8 h (omega arith), joined-label l a 9 h (omega arith), t)
-  where
-    eight : (l a : List ℕ) → take 8 (joined l a) ≡ either (take 8 l) a
-    eight l a = unfold joined in take-at (either (take 8 l) a) (drop 8 l) 8 (either-long (take 8 l) a)
+under-same ws w (suc d) f = ap₂ (λ (x : Level (List ℕ)) l. x ∷ l) (f d (omega arith)) (under-same ws w d (λ e h. f e (omega arith)))
 
 -- ── the event at a place of the body ──
 module _ (f : ℕ → Event) (body : List ℕ) (at : ℕ) where
@@ -141,75 +103,65 @@ module _ (body : List ℕ) (at : ℕ) where
         texted-at ∙ rw l refl
 
 -- ── each event ──
-module _ (b : List State) (ws m : List ℕ) (s : Reader) (deep : s .depth ≤ 64) (room : 650 ≤ length ws) where
-  ten : length (levelAt ws (s .depth)) ≡ 10
-  ten = part-long ws (10 * s .depth) 10 (omega arith)
-
+module _ (b : Meaning) (ws m : List ℕ) (s : Reader) (has : HasLevel ws (s .depth)) where
   -- the reading after a start
-  child-reading : (x t : ℕ) → s .depth < 64 →
-      readingOf (childOpened ws (s .depth) t x) m (record { place = s .place + 3; depth = s .depth + 1; asked = s .asked; anew = s .anew; filled = s .filled })
+  child-reading : (x t : ℕ) → HasLevel ws (s .depth + 1) →
+      readingOf (childOpened ws (s .depth) t x) m (record { place = s .place + 3; depth = s .depth + 1; counts = s .counts })
       ≡ record {
         place = s .place + 3;
         top = record { label = x; stage = 0; held = noStates };
-        under = record { label = getD (levelAt ws (s .depth)) 8 0; stage = stageAfter (attribute x) t; held = take 8 (levelAt ws (s .depth)) } ∷ levelsUnder ws (s .depth);
-        state = carriedBy s m;
+        under = record { label = labelIn ws (s .depth); stage = stageAfter (attribute x) t; held = setAt ws (s .depth) } ∷ levelsUnder ws (s .depth);
+        state = carriedIn m (s .counts);
       }
   unfolding readingOf childOpened
-  child-reading x t h =
+  child-reading x t more =
       let d : ℕ = s .depth in
-      let l : List ℕ = staged (levelAt ws d) (stageAfter (attribute x) t) in
-      let w : List ℕ = withLevel ws d l in
-      let long : length l ≡ 10 = staged-long (levelAt ws d) (stageAfter (attribute x) t) ∙ ten in
-      let wide : length w ≡ length ws = with-long ws l d (omega arith) long in
-      let fits : 10 * (d + 1) + 10 ≤ length w = rw wide (omega arith) in
-      let top : levelAt (withLevel w (d + 1) (opened x)) (d + 1) ≡ opened x = same-level w (opened x) (d + 1) fits (opened-long x) in
-      let here : levelAt (withLevel w (d + 1) (opened x)) d ≡ l = lower-level w (opened x) (d + 1) fits (opened-long x) d (omega arith) ∙ same-level ws l d (omega arith) long in
-      let rest : levelsUnder (withLevel w (d + 1) (opened x)) d ≡ levelsUnder ws d
-      = under-same ws (withLevel w (d + 1) (opened x)) d
-      (λ e k. lower-level w (opened x) (d + 1) fits (opened-long x) e (omega arith) ∙ lower-level ws l d (omega arith) long e k) in
-      rw (top, opened-level) (rw (under-more (withLevel w (d + 1) (opened x)) d, here, staged-level (levelAt ws d) (stageAfter (attribute x) t) ten, rest) refl)
+      let w : List ℕ = stagedAt ws d (stageAfter (attribute x) t) in
+      let one : OneLevel ws w d = staged-one ws d has (stageAfter (attribute x) t) in
+      let deep : HasLevel w (d + 1) = has-still ws (d + 1) more w d one in
+      let two : OneLevel w (openedAt w (d + 1) x) (d + 1) = opened-one w (d + 1) deep x in
+      let here : levelOf (openedAt w (d + 1) x) d ≡ record { label = labelIn ws d; stage = stageAfter (attribute x) t; held = setAt ws d }
+      = other-holds w (d + 1) deep (openedAt w (d + 1) x) two d (λ e. omega arith) ∙ staged-holds ws d has (stageAfter (attribute x) t) in
+      let rest : levelsUnder (openedAt w (d + 1) x) d ≡ levelsUnder ws d
+      = under-same ws (openedAt w (d + 1) x) d (λ e k. other-holds w (d + 1) deep (openedAt w (d + 1) x) two e (λ f. omega arith) ∙ other-holds ws d has w one e (λ f. omega arith)) in
+      rw (opened-holds w (d + 1) deep x, under-more (openedAt w (d + 1) x) d, here, rest) refl
 
   pub start-agrees : (x : ℕ) → onStart (asking b) (readingOf ws m s) 3 x ≡ nextOf (startFor x ws s .0) (startFor x ws s .1) m
   unfolding readingOf startFor startBy
-  start-agrees x =
-      rw (under-long ws (s .depth), level-at ws (s .depth) 8 (omega arith), level-at ws (s .depth) 9 (omega arith))
-      (go (startRefusal (s .depth) (labelIn ws (s .depth)) (stageIn ws (s .depth)) x) refl)
+  start-agrees x = rw (under-long ws (s .depth)) (go (startRefusal (s .depth) (labelIn ws (s .depth)) (stageIn ws (s .depth)) x) refl)
     where
       go : (e : ℕ) → startRefusal (s .depth) (labelIn ws (s .depth)) (stageIn ws (s .depth)) x ≡ e →
           unless {P = List ℕ} {S = Carried} e (record {
             place = s .place + 3;
             top = record { label = x; stage = 0; held = noStates };
-            under = record { label = labelIn ws (s .depth); stage = stageAfter (attribute x) (stageIn ws (s .depth)); held = take 8 (levelAt ws (s .depth)) } ∷ levelsUnder ws (s .depth);
-            state = carriedBy s m;
+            under = record { label = labelIn ws (s .depth); stage = stageAfter (attribute x) (stageIn ws (s .depth)); held = setAt ws (s .depth) } ∷ levelsUnder ws (s .depth);
+            state = carriedIn m (s .counts);
           })
           ≡ nextOf (startBy e x ws s .0) (startBy e x ws s .1) m
-      go zero h =
-          let r = child-reading x (stageIn ws (s .depth)) (start-room (s .depth) (labelIn ws (s .depth)) (stageIn ws (s .depth)) x 0 (sym h) refl) in
-          ap on (sym (rw (level-at ws (s .depth) 8 (omega arith)) at r))
+      go zero h = ap on (sym (child-reading x (stageIn ws (s .depth)) (start-room (s .depth) (labelIn ws (s .depth)) (stageIn ws (s .depth)) x ws 0 (sym h) refl has)))
       go (suc e) h = refl
 
   -- the reading after a text
   text-reading : (a : List ℕ) (k : ℕ) →
-      readingOf (withLevel ws (s .depth) (staged (joined (levelAt ws (s .depth)) a) 2)) m (record { place = k; depth = s .depth; asked = s .asked; anew = s .anew; filled = s .filled })
+      readingOf (stagedAt (joinedAt ws (s .depth) a) (s .depth) 2) m (record { place = k; depth = s .depth; counts = s .counts })
       ≡ record {
         place = k;
-        top = record { label = getD (levelAt ws (s .depth)) 8 0; stage = 2; held = either (take 8 (levelAt ws (s .depth))) a };
+        top = record { label = labelIn ws (s .depth); stage = 2; held = either (setAt ws (s .depth)) a };
         under = levelsUnder ws (s .depth);
-        state = carriedBy s m;
+        state = carriedIn m (s .counts);
       }
   unfolding readingOf
   text-reading a k =
       let d : ℕ = s .depth in
-      let j : List ℕ = joined (levelAt ws d) a in
-      let l : List ℕ = staged j 2 in
-      let tenj : length j ≡ 10 = joined-long (levelAt ws d) a ten in
-      let long : length l ≡ 10 = staged-long j 2 ∙ tenj in
-      let top : levelAt (withLevel ws d l) d ≡ l = same-level ws l d (omega arith) long in
-      let rest : levelsUnder (withLevel ws d l) d ≡ levelsUnder ws d = under-same ws (withLevel ws d l) d (λ e h. lower-level ws l d (omega arith) long e h) in
-      let jl : levelIn j ≡ record { label = getD (levelAt ws d) 8 0; stage = getD (levelAt ws d) 9 0; held = either (take 8 (levelAt ws d)) a } = joined-level (levelAt ws d) a ten in
-      let label : getD j 8 0 ≡ getD (levelAt ws d) 8 0 = ap (λ (y : Level (List ℕ)). y .label) jl in
-      let held : take 8 j ≡ either (take 8 (levelAt ws d)) a = ap (λ (y : Level (List ℕ)). y .held) jl in
-      rw (top, rest, staged-level j 2 tenj, label, held) refl
+      let w : List ℕ = joinedAt ws d a in
+      let one : OneLevel ws w d = joined-one ws d has a in
+      let deep : HasLevel w d = has-still ws d has w d one in
+      let two : OneLevel w (stagedAt w d 2) d = staged-one w d deep 2 in
+      let top : levelOf (stagedAt w d 2) d ≡ record { label = labelIn ws d; stage = 2; held = either (setAt ws d) a }
+      = staged-holds w d deep 2 ∙ ap (λ (y : Level (List ℕ)). record { label = y .label; stage = 2; held = y .held }) (joined-holds ws d has a) in
+      let rest : levelsUnder (stagedAt w d 2) d ≡ levelsUnder ws d
+      = under-same ws (stagedAt w d 2) d (λ e k. other-holds w d deep (stagedAt w d 2) two e (λ f. omega arith) ∙ other-holds ws d has w one e (λ f. omega arith)) in
+      rw (top, rest) refl
 
   module _ (k : ℕ) (body : List ℕ) (whole : k + 2 ≤ length body - s .place) where
     said : List ℕ
@@ -222,7 +174,7 @@ module _ (b : List State) (ws m : List ℕ) (s : Reader) (deep : s .depth ≤ 64
     unfolding astray textFor pick
     for-astray e = simp (le-ltb _ _ whole, e)
 
-    for-held : (h : Bool × List ℕ) → astray ≡ false → heldBy (textValue said) b ws (s .depth) ≡ h → textFor k body b ws s ≡ (textStep s k (h .0), h .1)
+    for-held : (h : Bool × List ℕ) → astray ≡ false → heldBy b said ws (s .depth) ≡ h → textFor k body b ws s ≡ (textStep s k (h .0), h .1)
     unfolding astray said textFor pick
     for-held h e f = simp (le-ltb _ _ whole, e) (ap (λ (y : Bool × List ℕ). (textStep s k (y .0), y .1)) f)
 
@@ -231,89 +183,71 @@ module _ (b : List State) (ws m : List ℕ) (s : Reader) (deep : s .depth ≤ 64
     unfolding said
     after-text = record {
       place = s .place + (2 + k);
-      top = record { label = getD (levelAt ws (s .depth)) 8 0; stage = 2; held = either (take 8 (levelAt ws (s .depth))) (leavesOf b (textValue said)) };
+      top = record { label = labelIn ws (s .depth); stage = 2; held = either (setAt ws (s .depth)) (leavesOf (b .states) (b .reads said)) };
       under = levelsUnder ws (s .depth);
-      state = carriedBy s m;
+      state = carriedIn m (s .counts);
     }
 
-    on-text : onText (asking b) (readingOf ws m s) (2 + k) said ≡ unless (textRefusal (s .depth) (stageIn ws (s .depth)) said) after-text
+    on-text : onText (asking b) (readingOf ws m s) (2 + k) said ≡ unless (textRefusal (s .depth) (stageIn ws (s .depth)) (outOfRange b said)) after-text
     unfolding readingOf said after-text
-    on-text = rw (under-long ws (s .depth), level-at ws (s .depth) 9 (omega arith)) refl
+    on-text = rw (under-long ws (s .depth)) refl
 
     told : Stepped × List ℕ → Next (List ℕ) Carried
     told y = nextOf (y .0) (y .1) m
 
-    text-by : (p : Bool) → astray ≡ p → (q : Bool) → isOut (textValue said) ≡ q → onText (asking b) (readingOf ws m s) (2 + k) said ≡ told (textFor k body b ws s)
+    text-by : (p : Bool) → astray ≡ p → (q : Bool) → outOfRange b said ≡ q → onText (asking b) (readingOf ws m s) (2 + k) said ≡ told (textFor k body b ws s)
     unfolding astray said after-text told textRefusal heldBy pick
     text-by true e q f = on-text ∙ ap (λ n. unless n after-text) (first-fails 26 _ _ e) ∙ ap told (sym (for-astray e))
     text-by false e true f =
-        let held : heldBy (textValue said) b ws (s .depth) ≡ (false, ws) = simp f in
+        let held : heldBy b said ws (s .depth) ≡ (false, ws) = simp f in
         on-text ∙ ap (λ n. unless n after-text) (first-passes 26 _ _ e ∙ first-fails 27 _ _ f) ∙ ap told (sym (for-held (false, ws) e held))
     text-by false e false f =
-        let w : List ℕ = withLevel ws (s .depth) (staged (joined (levelAt ws (s .depth)) (leavesOf b (textValue said))) 2) in
-        let held : heldBy (textValue said) b ws (s .depth) ≡ (true, w) = simp f in
+        let w : List ℕ = stagedAt (joinedAt ws (s .depth) (leavesOf (b .states) (b .reads said))) (s .depth) 2 in
+        let held : heldBy b said ws (s .depth) ≡ (true, w) = simp f in
         let at : s .place + (2 + k) ≡ s .place + (k + 2) = omega arith in
         on-text ∙ ap (λ n. unless n after-text) (first-passes 26 _ _ e ∙ first-passes 27 _ _ f ∙ first-end)
-        ∙ ap on (sym (text-reading (leavesOf b (textValue said)) (s .place + (2 + k)))) ∙ rw at refl ∙ ap told (sym (for-held (true, w) e held))
+        ∙ ap on (sym (text-reading (leavesOf (b .states) (b .reads said)) (s .place + (2 + k)))) ∙ rw at refl ∙ ap told (sym (for-held (true, w) e held))
 
     pub text-agrees : onText (asking b) (readingOf ws m s) (2 + k) (part body (s .place + 2) k) ≡ nextOf (textFor k body b ws s .0) (textFor k body b ws s .1) m
     unfolding said told
-    text-agrees = text-by astray refl (isOut (textValue said)) refl
-
-  -- the question of a level is its set and its label
-  question-same : questionIn (part ws (10 * s .depth) 9) ≡ record { states = take 8 (levelAt ws (s .depth)); label = getD (levelAt ws (s .depth)) 8 0 }
-  unfolding part
-  question-same =
-      let l : List ℕ = drop (10 * s .depth) ws in
-      let a : take 8 (take 9 l) ≡ take 8 (take 10 l) = take-take 8 9 l (omega arith) ∙ sym (take-take 8 10 l (omega arith)) in
-      let c : getD (take 9 l) 8 0 ≡ getD (take 10 l) 8 0 = getD-take 9 l 8 0 (omega arith) ∙ sym (getD-take 10 l 8 0 (omega arith)) in
-      rw (a, c) refl
+    text-agrees = text-by astray refl (outOfRange b said) refl
 
   module _ (inside : 0 < s .depth) where
-    under-split : levelsUnder ws (s .depth) ≡ levelIn (levelAt ws (s .depth - 1)) ∷ levelsUnder ws (s .depth - 1)
+    under-split : levelsUnder ws (s .depth) ≡ levelOf ws (s .depth - 1) ∷ levelsUnder ws (s .depth - 1)
     under-split = let e : s .depth - 1 + 1 ≡ s .depth = omega arith in rw e at (under-more ws (s .depth - 1))
 
     -- the reading after an end
-    shut-reading : (a v : List ℕ) (c : Counts) →
-        readingOf (withLevel ws (s .depth - 1) (joined (levelAt ws (s .depth - 1)) a)) v
-        (record { place = s .place + 3; depth = s .depth - 1; asked = s .asked + 1; anew = c .anew; filled = c .filled })
+    shut-reading : (a : List ℕ) (c : Carried) →
+        readingOf (joinedAt ws (s .depth - 1) a) (c .kept .memory) (record { place = s .place + 3; depth = s .depth - 1; counts = countsIn c })
         ≡ record {
           place = s .place + 3;
-          top = record { label = getD (levelAt ws (s .depth - 1)) 8 0; stage = getD (levelAt ws (s .depth - 1)) 9 0; held = either (take 8 (levelAt ws (s .depth - 1))) a };
+          top = record { label = labelIn ws (s .depth - 1); stage = stageIn ws (s .depth - 1); held = either (setAt ws (s .depth - 1)) a };
           under = levelsUnder ws (s .depth - 1);
-          state = record { asked = s .asked + 1; kept = record { memory = v; anew = c .anew; filled = c .filled } };
+          state = c;
         }
     unfolding readingOf
-    shut-reading a v c =
+    shut-reading a c =
         let d : ℕ = s .depth - 1 in
-        let fits : 10 * d + 10 ≤ length ws = omega arith in
-        let tend : length (levelAt ws d) ≡ 10 = part-long ws (10 * d) 10 fits in
-        let l : List ℕ = joined (levelAt ws d) a in
-        let long : length l ≡ 10 = joined-long (levelAt ws d) a tend in
-        let top : levelAt (withLevel ws d l) d ≡ l = same-level ws l d fits long in
-        let rest : levelsUnder (withLevel ws d l) d ≡ levelsUnder ws d = under-same ws (withLevel ws d l) d (λ e h. lower-level ws l d fits long e h) in
-        rw (top, rest, joined-level (levelAt ws d) a tend) refl
+        let low : HasLevel ws d = record { within = omega arith; room = has .room } in
+        let one : OneLevel ws (joinedAt ws d a) d = joined-one ws d low a in
+        let rest : levelsUnder (joinedAt ws d a) d ≡ levelsUnder ws d = under-same ws (joinedAt ws d a) d (λ e k. other-holds ws d low (joinedAt ws d a) one e (λ f. omega arith)) in
+        rw (joined-holds ws d low a, rest) refl
 
-    shut-agrees : shutInto (asking b) (readingOf ws m s) 3 (levelsUnder ws (s .depth))
-        ≡ readingOf (closeOf b ws (s .depth) m (countsOf s) .1) (closeOf b ws (s .depth) m (countsOf s) .2)
-        (record { place = s .place + 3; depth = s .depth - 1; asked = s .asked + 1; anew = closeOf b ws (s .depth) m (countsOf s) .0 .anew; filled = closeOf b ws (s .depth) m (countsOf s) .0 .filled })
+    shut-agrees : on (shutInto (asking b) (readingOf ws m s) 3 (levelsUnder ws (s .depth))) ≡ ending (ended s (closeOf (b .states) ws (s .depth) (carriedIn m (s .counts))))
     unfolding readingOf closeOf
     shut-agrees =
-        let r : Reply = ask b (questionIn (part ws (10 * s .depth) 9)) (record { memory = m; anew = s .anew; filled = s .filled }) in
-        rw (under-split, ← question-same) (sym (shut-reading (r .answer) (r .kept .memory) (record { anew = r .kept .anew; filled = r .kept .filled })))
+        let a : List ℕ × Carried = askNext (b .states) (questionIn (questionAt ws (s .depth))) (carriedIn m (s .counts)) in
+        rw (under-split, ← question-is ws (s .depth)) (ap on (sym (shut-reading (a .0) (a .1))))
 
   module _ (body : List ℕ) (whole : 3 ≤ length body - s .place) where
-    ending : Stepped × List ℕ × List ℕ → Next (List ℕ) Carried
-    ending y = nextOf (y .0) (y .1) (y .2)
-
     on-end : (x : ℕ) → onEnd (asking b) (readingOf ws m s) 3 x
         ≡ unless (endRefusal (s .depth) (labelIn ws (s .depth)) x) (shutInto (asking b) (readingOf ws m s) 3 (levelsUnder ws (s .depth)))
     unfolding readingOf
-    on-end x = rw (under-long ws (s .depth), level-at ws (s .depth) 8 (omega arith)) refl
+    on-end x = rw (under-long ws (s .depth)) refl
 
     end-by : (p : Bool) → eqb (s .depth) 0 ≡ p → (q : Bool) → eqb (le2 body (s .place + 1)) (labelIn ws (s .depth)) ≡ q →
         onEnd (asking b) (readingOf ws m s) 3 (le2 body (s .place + 1)) ≡ ending (endOf body b ws m s)
-    unfolding ending endRefusal
+    unfolding endRefusal
     end-by true e q f =
         on-end (le2 body (s .place + 1)) ∙ ap (λ n. unless n (shutInto (asking b) (readingOf ws m s) 3 (levelsUnder ws (s .depth)))) (first-fails 28 _ _ (ap (λ t. t || not (eqb (le2 body (s .place + 1)) (labelIn ws (s .depth)))) e))
         ∙ ap ending (end-none body b ws m s whole (eqb-true (s .depth) 0 e))
@@ -321,14 +255,13 @@ module _ (b : List State) (ws m : List ℕ) (s : Reader) (deep : s .depth ≤ 64
         let deep0 : s .depth ≡ 0 → ⊥ = eqb-false (s .depth) 0 e in
         let differs : le2 body (s .place + 1) ≡ labelIn ws (s .depth) → ⊥ = eqb-false (le2 body (s .place + 1)) (labelIn ws (s .depth)) f in
         on-end (le2 body (s .place + 1)) ∙ ap (λ n. unless n (shutInto (asking b) (readingOf ws m s) 3 (levelsUnder ws (s .depth)))) (first-fails 28 _ _ (ap₂ (λ t u. t || not u) e f))
-        ∙ ap ending (end-other body b ws m s whole deep0 (le2 body (s .place + 1)) refl differs)
+        ∙ ap ending (end-other body b ws m s whole deep0 (le2 body (s .place + 1)) (labelIn ws (s .depth)) refl refl differs)
     end-by false e true f =
         let deep0 : s .depth ≡ 0 → ⊥ = eqb-false (s .depth) 0 e in
         let own : le2 body (s .place + 1) ≡ labelIn ws (s .depth) = eqb-true (le2 body (s .place + 1)) (labelIn ws (s .depth)) f in
-        let c : Counts × List ℕ × List ℕ = closeOf b ws (s .depth) m (countsOf s) in
+        let c : List ℕ × Carried = closeOf (b .states) ws (s .depth) (carriedIn m (s .counts)) in
         on-end (le2 body (s .place + 1)) ∙ ap (λ n. unless n (shutInto (asking b) (readingOf ws m s) 3 (levelsUnder ws (s .depth)))) (first-passes 28 _ _ (ap₂ (λ t u. t || not u) e f) ∙ first-end)
-        ∙ ap on (shut-agrees (omega arith)) ∙ ap ending (end-own body b ws m s whole deep0 (le2 body (s .place + 1)) refl (c .0) (c .1) (c .2) own refl)
+        ∙ shut-agrees (omega arith) ∙ ap ending (end-own body b ws m s whole deep0 (le2 body (s .place + 1)) (labelIn ws (s .depth)) refl refl (countsIn (c .1)) (c .0) (c .1 .kept .memory) own refl)
 
     pub end-agrees : onEnd (asking b) (readingOf ws m s) 3 (le2 body (s .place + 1)) ≡ nextOf (endOf body b ws m s .0) (endOf body b ws m s .1) (endOf body b ws m s .2)
-    unfolding ending
     end-agrees = end-by (eqb (s .depth) 0) refl (eqb (le2 body (s .place + 1)) (labelIn ws (s .depth))) refl

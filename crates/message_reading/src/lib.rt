@@ -6,9 +6,12 @@ ghost use mathlib.Core.Path.{_≡_};
 ghost use Prim.Native.Nat.{_≤_};
 ghost use lib.ListN.{length};
 ghost use Rattle.lists.specs.Lending.{was, left};
-ghost use Rattle.book_plan.specs.Plan.{statesIn};
+ghost use Rattle.rules.specs.Run.{workspaceWidth};
+ghost use Rattle.book_plan.specs.Plan.{meaningIn};
 ghost use Rattle.memory_index.specs.Index.{Indexed};
+ghost use Rattle.message_levels.specs.Level.{HasLevel};
 ghost use Rattle.message_reading.specs.Outcomes.{CanRead, finished, ReadFrom, ReadMessage};
+use memory_ask::Counts;
 use message_events::Reader;
 use message_events::Step;
 
@@ -16,33 +19,27 @@ use message_events::Step;
 pub struct Ended {
     pub refusal: u64,
     pub place: usize,
-    pub asked: u64,
-    pub anew: u64,
-    pub filled: usize,
+    pub counts: Counts,
 }
 
 // After the last event: the top element never came or is still open, or the message is read.
-fn finish(s: Reader, body: &[u8], ws: &[u64]) -> Ended
-    requires { ⌜ (s .depth ≤ 64) × (650 ≤ length (now ws)) ⌝ }
-    ensures { λ r. ⌜ r ≡ finished s (length (was body)) (was ws) ⌝ }
+fn finish(s: Reader, body: &[u8], workspace: &[u64]) -> Ended
+    requires { ⌜ HasLevel (now workspace) (s .depth) ⌝ }
+    ensures { λ r. ⌜ r ≡ finished s (length (was body)) (was workspace) ⌝ }
 {
     let depth = s.depth;
-    let a = 10 * depth;
-    if (depth == 0) & (ws[a + 9] == 1) {
+    let counts = s.counts;
+    if (depth == 0) & (message_levels::stage_of(workspace, depth) == 1) {
         return Ended {
             refusal: 0,
             place: 0,
-            asked: s.asked,
-            anew: s.anew,
-            filled: s.filled,
+            counts: counts,
         };
     }
     Ended {
         refusal: 29,
         place: body.len(),
-        asked: s.asked,
-        anew: s.anew,
-        filled: s.filled,
+        counts: counts,
     }
 }
 
@@ -51,64 +48,58 @@ fn read_on(
     from: Reader,
     body: &[u8],
     plan: &[u64],
-    n: usize,
-    table: &mut [u16],
+    index: &mut [u16],
     memory: &mut [u64],
-    ws: &mut [u64],
+    workspace: &mut [u64],
 ) -> Ended
-    requires { ⌜ CanRead (now plan) n (now table) (now memory) (now body) (from .asked) (from .anew) (from .filled) ⌝ }
-    requires { ⌜ (from .place ≤ length (now body)) × (from .depth ≤ 64) × (650 ≤ length (now ws)) ⌝ }
+    requires { ⌜ CanRead (now plan) (now index) (now memory) (now body) (from .counts) ⌝ }
+    requires { ⌜ (from .place ≤ length (now body)) × HasLevel (now workspace) (from .depth) ⌝ }
     ensures { λ r. ⌜
-        ReadFrom (was body) (statesIn (was plan) n) (was ws) (was memory) from r (left ws) (left memory)
+        ReadFrom (was body) (meaningIn (was plan)) (was workspace) (was memory) from r (left workspace) (left memory)
         ⌝ }
-    ensures { λ r. ⌜ Indexed (left table) (left memory) (r .filled) ⌝ }
+    ensures { λ r. ⌜ Indexed (left index) (left memory) (r .counts .filled) ⌝ }
 {
     let mut s = from;
     while s.place < body.len() {
-        match s.step(body, plan, n, table, memory, ws) {
+        match s.step(body, plan, index, memory, workspace) {
             Step::Next(t) => {
                 s = t;
             }
             Step::Refused(e, p) => {
+                let counts = s.counts;
                 return Ended {
                     refusal: e,
                     place: p,
-                    asked: s.asked,
-                    anew: s.anew,
-                    filled: s.filled,
+                    counts: counts,
                 };
             }
         }
     }
-    finish(s, body, ws)
+    finish(s, body, workspace)
 }
 
 // A message, from the root's level on.
 pub fn read(
     body: &[u8],
     plan: &[u64],
-    n: usize,
-    table: &mut [u16],
+    index: &mut [u16],
     memory: &mut [u64],
-    ws: &mut [u64],
-    asked: u64,
-    anew: u64,
-    filled: usize,
+    workspace: &mut [u64],
+    counts: Counts,
 ) -> Ended
-    requires { ⌜ CanRead (now plan) n (now table) (now memory) (now body) asked anew filled ⌝ }
-    requires { ⌜ 650 ≤ length (now ws) ⌝ }
+    requires { ⌜ CanRead (now plan) (now index) (now memory) (now body) counts ⌝ }
+    requires { ⌜ workspaceWidth ≤ length (now workspace) ⌝ }
     ensures { λ r. ⌜
-        ReadMessage (was body) (statesIn (was plan) n) (was ws) (was memory) asked anew filled r (left ws) (left memory)
+        ReadMessage (was body) (meaningIn (was plan)) (was workspace) (was memory) counts
+        r (left workspace) (left memory)
         ⌝ }
-    ensures { λ r. ⌜ Indexed (left table) (left memory) (r .filled) ⌝ }
+    ensures { λ r. ⌜ Indexed (left index) (left memory) (r .counts .filled) ⌝ }
 {
-    message_levels::open_at(ws, 0, 0);
+    message_levels::open_at(workspace, 0, 0);
     let from = Reader {
         place: 0,
         depth: 0,
-        asked: asked,
-        anew: anew,
-        filled: filled,
+        counts: counts,
     };
-    read_on(from, body, plan, n, table, memory, ws)
+    read_on(from, body, plan, index, memory, workspace)
 }

@@ -17,7 +17,7 @@ use mir.ValLaws.{toZ-ofZ, toZ-neg}
 use borrow.Author.Tests.{le-leb, lt-leb, eq-eqb, ne-eqb, not-true, not-false}
 use Rattle.lists.specs.Choice.{pick}
 use Rattle.rules.specs.Value.{Value, number, no-number, out-of-range, isSpace, isDigit, stripStart, stripBefore, stripEnd}
-use Rattle.rules.specs.Value.{inRange, digitsFrom, someDigits, wholeNumber, textValue}
+use Rattle.rules.specs.Value.{lowest, highest, inRange, digitsFrom, someDigits, wholeNumber, textValue}
 
 -- want is what a cut at r leaves, and r is within the text
 pub record Cut (want left : List ℕ) (r size : ℕ) : Type 0 where
@@ -26,9 +26,9 @@ pub record Cut (want left : List ℕ) (r size : ℕ) : Type 0 where
 
 -- n with the digit x after it; once past the range, past it for good
 pub record Next (n x r : ℕ) : Type 0 where
-  pub small : n ≤ 2147483648 → r ≡ n * 10 + (x - 48)
-  pub big : 2147483648 < n → 2147483648 < r
-  pub bound : r ≤ 21474836489
+  pub small : n ≤ lowest → r ≡ n * 10 + (x - 48)
+  pub big : lowest < n → lowest < r
+  pub bound : r ≤ lowest * 10 + 9
 
 -- an i32 that a call gave, read back from its bits
 pub back32 : (z : ℤ) → mag z < 2 ^ 31 → toZ w32 (ofZ w32 z) ≡ z
@@ -39,7 +39,7 @@ pub negated-zero : (n : ℕ) → n ≡ 0 → pos 0 ≡ negℤ (pos n)
 negated-zero n e = rw e
 
 -- what the code's `!((n - 1) as i32)` holds
-pub negated-more : (n : ℕ) → (n ≡ 0 → ⊥) → n ≤ 2147483648 → toZ w32 (4294967295 - (n - 1)) ≡ negℤ (pos n)
+pub negated-more : (n : ℕ) → (n ≡ 0 → ⊥) → n ≤ lowest → toZ w32 (4294967295 - (n - 1)) ≡ negℤ (pos n)
 negated-more n h l =
     let e : 4294967295 - (n - 1) ≡ 4294967296 - suc (n - 1) = omega arith in
     let k : n ≡ suc (n - 1) = omega arith in
@@ -47,21 +47,21 @@ negated-more n h l =
 
 pub ruleset negated-laws = (negated-zero, negated-more)
 
-pub range-below : (m : Bool) (n : ℕ) (z : ℤ) → m ≡ true → n ≤ 2147483648 → z ≡ negℤ (pos n) → number z ≡ inRange m n
+pub range-below : (m : Bool) (n : ℕ) (z : ℤ) → m ≡ true → n ≤ lowest → z ≡ negℤ (pos n) → number z ≡ inRange m n
 unfolding pick
-range-below m n z e h d = rw (e, d, le-leb n 2147483648 h)
+range-below m n z e h d = rw (e, d, le-leb n lowest h)
 
-pub range-too-low : (m : Bool) (n : ℕ) → m ≡ true → 2147483648 < n → out-of-range ≡ inRange m n
+pub range-too-low : (m : Bool) (n : ℕ) → m ≡ true → lowest < n → out-of-range ≡ inRange m n
 unfolding pick
-range-too-low m n e h = rw (e, lt-leb n 2147483648 h)
+range-too-low m n e h = rw (e, lt-leb n lowest h)
 
-pub range-above : (m : Bool) (n : ℕ) (z : ℤ) → m ≡ false → n ≤ 2147483647 → z ≡ pos n → number z ≡ inRange m n
+pub range-above : (m : Bool) (n : ℕ) (z : ℤ) → m ≡ false → n ≤ highest → z ≡ pos n → number z ≡ inRange m n
 unfolding pick
-range-above m n z e h d = rw (e, d, le-leb n 2147483647 h)
+range-above m n z e h d = rw (e, d, le-leb n highest h)
 
-pub range-too-high : (m : Bool) (n : ℕ) → m ≡ false → 2147483647 < n → out-of-range ≡ inRange m n
+pub range-too-high : (m : Bool) (n : ℕ) → m ≡ false → highest < n → out-of-range ≡ inRange m n
 unfolding pick
-range-too-high m n e h = rw (e, lt-leb n 2147483647 h)
+range-too-high m n e h = rw (e, lt-leb n highest h)
 
 pub ruleset range-laws = (range-too-low, range-too-high)
 
@@ -160,14 +160,14 @@ module _ (m : Bool) where
   no-digit x s n e = rw (e, digitsFrom)
 
   -- past the range, the number itself plays no part
-  range-big : (a b : ℕ) → 2147483648 < a → 2147483648 < b → inRange m a ≡ inRange m b
+  range-big : (a b : ℕ) → lowest < a → lowest < b → inRange m a ≡ inRange m b
   unfolding pick
   range-big a b ha hb = elim m [
-    | true ↦ rw (lt-leb a 2147483648 ha, lt-leb b 2147483648 hb)
-    | false ↦ rw (lt-leb a 2147483647 (omega arith), lt-leb b 2147483647 (omega arith))
+    | true ↦ rw (lt-leb a lowest ha, lt-leb b lowest hb)
+    | false ↦ rw (lt-leb a highest (omega arith), lt-leb b highest (omega arith))
   ]
 
-  digits-big : (s : List ℕ) (a b : ℕ) → 2147483648 < a → 2147483648 < b → digitsFrom m a s ≡ digitsFrom m b s
+  digits-big : (s : List ℕ) (a b : ℕ) → lowest < a → lowest < b → digitsFrom m a s ≡ digitsFrom m b s
   unfolding digitsFrom
   digits-big [] a b ha hb = range-big a b ha hb
   digits-big (x ∷ s) a b ha hb = go (isDigit x) refl (digits-big s (a * 10 + (x - 48)) (b * 10 + (x - 48)) (omega arith) (omega arith))
@@ -183,7 +183,7 @@ module _ (m : Bool) where
   more : (s : List ℕ) (i n r : ℕ) → i < length s → isDigit (getD s i 0) ≡ true → Next n (getD s i 0) r →
       digitsFrom m n (drop i s) ≡ digitsFrom m r (drop (i + 1) s)
   more s i n r h e q = rw (add-one, drop-cons s i 0)
-      (one-more (getD s i 0) (drop (suc i) s) n e ∙ elim (decLe n 2147483648) [
+      (one-more (getD s i 0) (drop (suc i) s) n e ∙ elim (decLe n lowest) [
         | yes b ↦ ap (λ k. digitsFrom m k (drop (suc i) s)) (sym (q .small b))
         | no b ↦ digits-big (drop (suc i) s) (n * 10 + (getD s i 0 - 48)) r (omega arith) (q .big (omega arith))
       ])
@@ -195,7 +195,7 @@ module _ (m : Bool) where
 -- the digits before place i say n
 pub record ReadingDigits (m : Bool) (s : List ℕ) (n i : ℕ) : Type 0 where
   pub within : i ≤ length s
-  pub bound : n ≤ 21474836489
+  pub bound : n ≤ lowest * 10 + 9
   pub same : digitsFrom m 0 s ≡ digitsFrom m n (drop i s)
 
 pub digits-none : (m : Bool) (s : List ℕ) → ReadingDigits m s 0 0

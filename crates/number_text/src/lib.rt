@@ -7,11 +7,18 @@ ghost use Prim.Native.Nat.{_≤_};
 ghost use lib.ListN.{length, take, drop};
 ghost use lib.IntN.{pos, negℤ};
 ghost use Rattle.lists.specs.Lending.{was};
-ghost use Rattle.rules.specs.Value.{isSpace, stripStart, stripEnd, inRange, digitsFrom, wholeNumber, textValue};
+ghost use Rattle.rules.specs.Value.{lowest, isSpace, stripStart, stripEnd, inRange, digitsFrom, wholeNumber};
+ghost use Rattle.rules.specs.Value.{textValue};
 ghost use Rattle.rules.specs.State.{related as stands};
 ghost use Rattle.rules.specs.Book.{relationOf};
 ghost use Rattle.number_text.specs.Meant.{meant};
 ghost use Rattle.number_text.specs.Laws.{Cut, Next};
+
+// How far down a value may lie.
+const LOWEST: u64 = 2147483648;
+
+// And how far up.
+const HIGHEST: u64 = 2147483647;
 
 pub enum Value {
     Number(i32),
@@ -22,12 +29,12 @@ pub enum Value {
 fn space(x: u8) -> bool
     ensures { λ r. ⌜ r ≡ isSpace x ⌝ }
 {
-    (x == 32) | (x == 9) | (x == 13) | (x == 10)
+    (x == b' ') | (x == b'\t') | (x == b'\r') | (x == b'\n')
 }
 
 // -n, also where that is the lowest value: 2,147,483,648 is no i32, so the number below it is turned over.
 fn negated(n: u64) -> i32
-    requires { ⌜ n ≤ 2147483648 ⌝ }
+    requires { ⌜ n ≤ lowest ⌝ }
     ensures { λ r. ⌜ r ≡ negℤ (pos n) ⌝ }
 {
     if n == 0 { 0 } else { !((n - 1) as i32) }
@@ -37,13 +44,13 @@ fn in_range(minus: bool, n: u64) -> Value
     ensures { λ r. ⌜ meant r ≡ inRange minus n ⌝ }
 {
     if minus {
-        if n <= 2147483648 {
+        if n <= LOWEST {
             Value::Number(negated(n))
         } else {
             Value::OutOfRange
         }
     } else {
-        if n <= 2147483647 {
+        if n <= HIGHEST {
             Value::Number(n as i32)
         } else {
             Value::OutOfRange
@@ -84,10 +91,10 @@ fn next(n: u64, x: u8) -> u64
     requires { ⌜ (48 ≤ x) × (x ≤ 57) ⌝ }
     ensures { λ r. ⌜ Next n x r ⌝ }
 {
-    if n <= 2147483648 {
-        n * 10 + (x - 48) as u64
+    if n <= LOWEST {
+        n * 10 + (x - b'0') as u64
     } else {
-        2147483649
+        LOWEST + 1
     }
 }
 
@@ -98,10 +105,10 @@ fn digits(s: &[u8], minus: bool) -> Value
     let mut i = 0;
     while i < s.len() {
         let x = s[i];
-        if x < 48 {
+        if x < b'0' {
             return Value::NoNumber;
         }
-        if 57 < x {
+        if b'9' < x {
             return Value::NoNumber;
         }
         n = next(n, x);
@@ -117,7 +124,7 @@ fn whole_number(s: &[u8]) -> Value
     if s.len() == 0 {
         return Value::NoNumber;
     }
-    if s[0] == 45 {
+    if s[0] == b'-' {
         if s.len() == 1 {
             return Value::NoNumber;
         }

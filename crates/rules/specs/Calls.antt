@@ -21,29 +21,29 @@ abbrev pub countLimit : ℕ
 countLimit = 2 ^ 63
 
 -- the counts that it starts from: asked, worked out anew, filled
-pub record Totals : Type 0 where
+pub record Counts : Type 0 where
   pub asked : ℕ
   pub anew : ℕ
   pub filled : ℕ
 
-abbrev pub totals : ℕ → ℕ → ℕ → Totals
-totals asked anew filled = record { asked = asked; anew = anew; filled = filled }
+abbrev pub counts : ℕ → ℕ → ℕ → Counts
+counts asked anew filled = record { asked = asked; anew = anew; filled = filled }
 
-abbrev pub carriedFrom : Totals → List ℕ → Carried
+abbrev pub carriedFrom : Counts → List ℕ → Carried
 carriedFrom c memory = record { asked = c .asked; kept = record { memory = memory; anew = c .anew; filled = c .filled } }
 
 -- after the run's refusals
-abbrev pub totalChecks : Lent → Totals → List Check
-totalChecks l c =
+abbrev pub countChecks : Lent → Counts → List Check
+countChecks l c =
     -- more slots are said to be filled than C: "C is the lent count div 17, at most 4,096"
     record { number = 14; fails = ltb (slotsLent (l .memory)) (c .filled) } ∷
     -- a count of 2^63 or more, which a day file might raise past 64 bits
     record { number = 19; fails = leb countLimit (c .asked) || leb countLimit (c .anew) } ∷ []
 
-unfoldable pub passRefusal : Lent → Totals → ℕ
-passRefusal l c = firstOf (runChecks l ++ totalChecks l c)
+unfoldable pub passRefusal : Lent → Counts → ℕ
+passRefusal l c = firstOf (runChecks l ++ countChecks l c)
 
-unfoldable pub passFrom : Lent → Totals → Returned
+unfoldable pub passFrom : Lent → Counts → Returned
 passFrom l c = pick (eqb (passRefusal l c) 0) (passDay l (carriedFrom c (l .memory))) (refusedRun l (passRefusal l c))
 
 -- ── "one inner call answers a question" ──

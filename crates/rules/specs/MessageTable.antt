@@ -1,5 +1,5 @@
 -- The refusal table of one message: the number at a place, by what is open after the events before it and by the bytes
--- that follow. Section "Refusal numbers": "One message, each event checked in this order". No reader has a part in it.
+-- that follow; b is what the book means to it. Section "Refusal numbers": "One message, each event checked in this order". No reader has a part in it.
 use mathlib.Core.Bool.{Bool, true, false, _||_, _&&_, not}
 use mathlib.Core.List.{List, [], _∷_}
 use Prim.Native.Nat.{ℕ, _+_}
@@ -10,8 +10,8 @@ use Rattle.lists.specs.Parts.{part}
 use Rattle.lists.specs.Checks.{Check}
 use Rattle.rules.specs.Bytes.{le2}
 use Rattle.rules.specs.State.{anyElement, anyAttribute, attribute}
-use Rattle.rules.specs.Value.{textValue}
-use Rattle.rules.specs.Message.{Event, start, text, end, mostOpen, isOut}
+use Rattle.rules.specs.Book.{Meaning, outOfRange}
+use Rattle.rules.specs.Message.{Event, start, text, end, mostOpen}
 pub mod Laws
 pub mod Refused
 
@@ -90,8 +90,8 @@ textAmiss o = atTop (o .under) || o .top .said || o .top .child
 abbrev pub endAmiss : Opens → ℕ → Bool
 endAmiss o x = atTop (o .under) || not (eqb x (o .top .label))
 
-abbrev pub messageRows : Opens → List ℕ → List Check
-messageRows o rest =
+abbrev pub messageRows : Meaning → Opens → List ℕ → List Check
+messageRows b o rest =
     -- "kind is not 1, 2 or 3"
     record { number = 21; fails = not (noMore rest) && not (isKind 1 rest || isKind 2 rest || isKind 3 rest) } ∷
     record { number = 22; fails = not (noMore rest) && cutShort rest } ∷
@@ -102,7 +102,7 @@ messageRows o rest =
     record { number = 25; fails = isKind 1 rest && leb mostOpen (length (o .under)) } ∷
     record { number = 26; fails = isKind 2 rest && textAmiss o } ∷
     -- "whole number out of range"
-    record { number = 27; fails = isKind 2 rest && isOut (textValue (textThere rest)) } ∷
+    record { number = 27; fails = isKind 2 rest && outOfRange b (textThere rest) } ∷
     record { number = 28; fails = isKind 3 rest && endAmiss o (labelThere rest) } ∷
     -- "after the last event, 29 the top element never came or is still open"
     record { number = 29; fails = noMore rest && not (atTop (o .under) && o .top .child) } ∷ []

@@ -3,7 +3,6 @@ use mathlib.Core.Path.{_≡_, refl, _∙_, ap}
 use mathlib.Core.Bool.{Bool, true, false}
 use mathlib.Core.List.{List}
 use Prim.Native.Nat.{ℕ, zero, suc, _+_, _*_, _%_, _^_, _<_, _≤_}
-use native.Mathlib.Nat.{pow-suc}
 use native.Mathlib.Numerals.{add-one}
 use native.Mathlib.Omega.{arith}
 use native.Mathlib.Decide.{decLt}
@@ -12,15 +11,16 @@ use lib.Pow.{shl-exact, pow-lt}
 use Rattle.lists.specs.Below.{bit, flags}
 use Rattle.lists.specs.Below.Laws.{flags-lt}
 use Rattle.rules.specs.State.{State}
-use Rattle.rules.specs.Book.{filterCount, bodySize, statesBefore, statesOf}
+use Rattle.rules.specs.Bytes.{entryAt}
+use Rattle.rules.specs.Book.{mostFilters, mostStates, filterCount, bodySize, statesBefore, statesOf}
 use Rattle.rules.specs.Match.{filtersWhere}
-use Rattle.rules.specs.Sets.{has, completed}
+use Rattle.rules.specs.Sets.{setWidth, has, completed}
 use Rattle.book_plan.specs.Plan.{statesIn, PlanOf}
 use Rattle.book_contents.specs.BookAccepted.{BookAccepted, states-rise}
 use Rattle.set_work.specs.Loops.{completedSet, completed-bit}
 
 -- ── one flag ──
-pub flag-on : (b : Bool) (k : ℕ) → b ≡ true → k < 64 → (1 * 2 ^ k) % 2 ^ 64 ≡ bit b * 2 ^ k
+pub flag-on : (b : Bool) (k : ℕ) → b ≡ true → k < mostFilters → (1 * 2 ^ k) % 2 ^ 64 ≡ bit b * 2 ^ k
 flag-on b k e h = rw e (shl-exact 1 k 64 (omega arith) (omega arith))
 
 pub flag-off : (b : Bool) (k : ℕ) → b ≡ false → 0 ≡ bit b * 2 ^ k
@@ -29,32 +29,32 @@ flag-off b k e = rw e (omega arith)
 pub ruleset flag-laws = (flag-on, flag-off)
 
 -- ── the flags of the first k filters ──
-pow-most : (k : ℕ) → k ≤ 64 → 2 ^ k ≤ 2 ^ 64
-pow-most k h = elim (decLt k 64) [ yes l ↦ omega (arith, pow-lt {i = k} {j = 64} l) | no l ↦ let e : k ≡ 64 = omega arith in rw e (omega arith) ]
+pow-most : (k : ℕ) → k ≤ mostFilters → 2 ^ k ≤ 2 ^ 64
+pow-most k h = elim (decLt k mostFilters) [ yes l ↦ omega (arith, pow-lt {i = k} {j = 64} l) | no l ↦ let e : k ≡ mostFilters = omega arith in rw e (omega arith) ]
 
 -- the filters before filter k are read; its state 0 is number first
 pub record Rooting (b s : List ℕ) (f r first k : ℕ) : Type 0 where
   pub accepted : BookAccepted b
-  pub long : 8 ≤ length s
+  pub long : setWidth ≤ length s
   pub count : f ≡ filterCount b
   pub within : k ≤ f
   pub next : first ≡ statesBefore b k
   pub read : r ≡ flags (λ i. has s (statesBefore b i)) k
 
-pub rooting-none : (b s : List ℕ) (f : ℕ) → BookAccepted b → 8 ≤ length s → f ≡ filterCount b → Rooting b s f 0 0 0
+pub rooting-none : (b s : List ℕ) (f : ℕ) → BookAccepted b → setWidth ≤ length s → f ≡ filterCount b → Rooting b s f 0 0 0
 unfolding flags statesBefore
 rooting-none b s f a h e = record { accepted = a; long = h; count = e; within = omega arith; next = refl; read = refl }
 
 module _ (b s : List ℕ) (f r first k : ℕ) where
-  pub rooting-state : Rooting b s f r first k → k < f → first < 512
+  pub rooting-state : Rooting b s f r first k → k < f → first < mostStates
   rooting-state g h =
       let l : k < filterCount b = omega (arith, g .count) in
       omega (arith, g .next, g .accepted .some k l, g .accepted .states, states-rise b k (filterCount b) l)
 
-  pub rooting-few : Rooting b s f r first k → k < f → k < 64
+  pub rooting-few : Rooting b s f r first k → k < f → k < mostFilters
   rooting-few g h = omega (arith, g .count, g .accepted .few)
 
-  pub rooting-room : Rooting b s f r first k → k < f → 10 + 8 * k ≤ length b
+  pub rooting-room : Rooting b s f r first k → k < f → entryAt (k + 1) ≤ length b
   rooting-room g h = omega (arith, g .count, g .accepted .whole)
 
   pub rooting-fits : (x : Bool) (m : ℕ) → Rooting b s f r first k → k < f → x ≡ has s first → m ≡ bit x * 2 ^ k → r + m < 2 ^ 64
@@ -97,11 +97,11 @@ unfolding flags
 flags-agree f g zero e = refl
 flags-agree f g (suc k) e = rw (flags-agree f g k (λ i h. e i (omega arith)), e k (omega arith))
 
-pub reads-completed : (p b ws s : List ℕ) (n r : ℕ) → PlanOf p b n → BookAccepted b → s ≡ completedSet (statesIn p n) ws → r ≡ filtersWhere b (has s) →
+pub reads-completed : (p b ws s : List ℕ) (r : ℕ) → PlanOf p b → BookAccepted b → s ≡ completedSet (statesIn p) ws → r ≡ filtersWhere b (has s) →
     r ≡ filtersWhere b (completed (statesOf b) ws)
 unfolding filtersWhere
-reads-completed p b ws s n r q a e d =
+reads-completed p b ws s r q a e d =
     d ∙ flags-agree (λ i. has s (statesBefore b i)) (λ i. completed (statesOf b) ws (statesBefore b i)) (filterCount b)
     (λ i h.
-    let l : statesBefore b i < 512 = omega (arith, a .some i h, a .states, states-rise b i (filterCount b) h) in
-    rw e (completed-bit p n ws (statesBefore b i) (q .planned) l) ∙ ap (λ (c : List State). completed c ws (statesBefore b i)) (q .states))
+    let l : statesBefore b i < mostStates = omega (arith, a .some i h, a .states, states-rise b i (filterCount b) h) in
+    rw e (completed-bit p ws (statesBefore b i) (q .planned) l) ∙ ap (λ (c : List State). completed c ws (statesBefore b i)) (q .states))

@@ -6,15 +6,15 @@ ghost use Prim.Native.Nat.{_*_, _^_, _<_, _≤_};
 ghost use lib.ListN.{length};
 ghost use Rattle.lists.specs.Lending.{was};
 ghost use Rattle.lists.specs.Below.{bit};
-ghost use Rattle.rules.specs.Book.{statesOf};
+ghost use Rattle.rules.specs.Book.{mostFilters, statesOf};
 ghost use Rattle.rules.specs.Match.{filtersWhere};
-ghost use Rattle.rules.specs.Sets.{has as member, completed};
+ghost use Rattle.rules.specs.Sets.{setWidth, has as member, completed};
 ghost use Rattle.book_plan.specs.Plan.{PlanOf};
 ghost use Rattle.book_contents.specs.BookAccepted.{BookAccepted};
 
 // The number whose bit k is b.
 fn flag(b: bool, k: usize) -> u64
-    requires { ⌜ k < 64 ⌝ }
+    requires { ⌜ k < mostFilters ⌝ }
     ensures { λ r. ⌜ r ≡ bit b * 2 ^ k ⌝ }
 {
     if b { 1 << k } else { 0 }
@@ -22,7 +22,7 @@ fn flag(b: bool, k: usize) -> u64
 
 // The filters whose state 0 the set holds.
 fn filters_of(book: &[u8], set: &[u64]) -> u64
-    requires { ⌜ BookAccepted (now book) × (8 ≤ length (now set)) ⌝ }
+    requires { ⌜ BookAccepted (now book) × (setWidth ≤ length (now set)) ⌝ }
     ensures { λ r. ⌜ r ≡ filtersWhere (was book) (member (was set)) ⌝ }
 {
     let f = book_contents::filter_count(book);
@@ -39,19 +39,19 @@ fn filters_of(book: &[u8], set: &[u64]) -> u64
 
 // Completes the root's set into the set that is lent, and reads the filters off. A local array can be lent once only,
 // so filters lends it here.
-fn filters_in(book: &[u8], plan: &[u64], n: usize, set: &[u64], done: &mut [u64]) -> u64
-    requires { ⌜ PlanOf (now plan) (now book) n × BookAccepted (now book) ⌝ }
-    requires { ⌜ (length (now set) ≡ 8) × (length (now done) ≡ 8) ⌝ }
+fn filters_in(book: &[u8], plan: &[u64], set: &[u64], done: &mut [u64]) -> u64
+    requires { ⌜ PlanOf (now plan) (now book) × BookAccepted (now book) ⌝ }
+    requires { ⌜ (length (now set) ≡ setWidth) × (length (now done) ≡ setWidth) ⌝ }
     ensures { λ r. ⌜ r ≡ filtersWhere (was book) (completed (statesOf (was book)) (was set)) ⌝ }
 {
-    set_work::complete(plan, n, set, done);
+    set_work::complete(plan, set, done);
     filters_of(book, done)
 }
 
-pub fn filters(book: &[u8], plan: &[u64], n: usize, set: &[u64]) -> u64
-    requires { ⌜ PlanOf (now plan) (now book) n × BookAccepted (now book) × (length (now set) ≡ 8) ⌝ }
+pub fn filters(book: &[u8], plan: &[u64], set: &[u64]) -> u64
+    requires { ⌜ PlanOf (now plan) (now book) × BookAccepted (now book) × (length (now set) ≡ setWidth) ⌝ }
     ensures { λ r. ⌜ r ≡ filtersWhere (was book) (completed (statesOf (was book)) (was set)) ⌝ }
 {
-    let mut done = [0u64; 8];
-    filters_in(book, plan, n, set, &mut done[0..8])
+    let mut done = [0u64; set_bits::WIDTH];
+    filters_in(book, plan, set, &mut done[0..set_bits::WIDTH])
 }

@@ -9,10 +9,11 @@ use lib.ListN.{length, getD, replicate}
 use mir.Syntax.{w64}
 use mir.Val.{Fits}
 use Rattle.rules.specs.State.{State, TRUE, LEAF, AND, OR, NOT, STEP, fits}
-use Rattle.rules.specs.Sets.{has, setOf, completes, completed, givesStep, workOut}
+use Rattle.rules.specs.Book.{mostStates}
+use Rattle.rules.specs.Sets.{setWidth, has, setOf, completes, completed, givesStep, workOut}
 use Rattle.rules.specs.Match.Settle.{Inside, completes-rests, completed-law, completed-past}
 use Rattle.rules.specs.Sets.Laws.{put, Upto, setOf-agree}
-use Rattle.book_plan.specs.Plan.{planState, stateIn, statesIn, Planned, states-long, states-at}
+use Rattle.book_plan.specs.Plan.{planWidth, planState, stateIn, stateCount, statesIn, Planned, states-long, states-at}
 use Rattle.set_work.specs.Putting.{Putting, putting-up, putting-down, plan-inside, no-bit, far-bit, planned-bit, planned-past, planned-ext}
 
 -- ── completing ──
@@ -20,21 +21,21 @@ use Rattle.set_work.specs.Putting.{Putting, putting-up, putting-down, pl
 unfoldable pub completedSet : List State → List ℕ → List ℕ
 completedSet b ws = setOf b (λ s k. completed b ws k)
 
-pub completed-bit : (p : List ℕ) (n : ℕ) (ws : List ℕ) (j : ℕ) → Planned p n → j < 512 →
-    has (completedSet (statesIn p n) ws) j ≡ completed (statesIn p n) ws j
+pub completed-bit : (p : List ℕ) (ws : List ℕ) (j : ℕ) → Planned p → j < mostStates →
+    has (completedSet (statesIn p) ws) j ≡ completed (statesIn p) ws j
 unfolding completedSet
-completed-bit p n ws j q h = elim (decLt j n) [
-  | yes v ↦ planned-bit p n q (λ s k. completed (statesIn p n) ws k) j v
-  | no v ↦ let l : length (statesIn p n) ≡ n = states-long p n in
-      planned-past p n q (λ s k. completed (statesIn p n) ws k) j (omega arith) h ∙ sym (completed-past (statesIn p n) ws j (omega arith))
+completed-bit p ws j q h = elim (decLt j (stateCount p)) [
+  | yes v ↦ planned-bit p q (λ s k. completed (statesIn p) ws k) j v
+  | no v ↦ let l : length (statesIn p) ≡ stateCount p = states-long p in
+      planned-past p q (λ s k. completed (statesIn p) ws k) j (omega arith) h ∙ sym (completed-past (statesIn p) ws j (omega arith))
 ]
 
-abbrev pub Completing : List ℕ → ℕ → List ℕ → List ℕ → ℕ → Type 0
-Completing p n ws s i = (8 ≤ length ws) × Putting p n (λ j. false) (has (completedSet (statesIn p n) ws)) i s
+abbrev pub Completing : List ℕ → List ℕ → List ℕ → ℕ → Type 0
+Completing p ws s i = (setWidth ≤ length ws) × Putting p (λ j. false) (has (completedSet (statesIn p) ws)) i s
 
-module _ (p : List ℕ) (n : ℕ) (ws : List ℕ) where
-  pub completing-none : (o s : List ℕ) → Planned p n → 8 ≤ length ws → length o ≡ 8 → s ≡ replicate (length o) 0 →
-      ((k : ℕ) → Fits w64 (getD s k 0)) → Completing p n ws s n
+module _ (p : List ℕ) (ws : List ℕ) where
+  pub completing-none : (o s : List ℕ) → Planned p → setWidth ≤ length ws → length o ≡ setWidth → s ≡ replicate (length o) 0 →
+      ((k : ℕ) → Fits w64 (getD s k 0)) → Completing p ws s (stateCount p)
   unfolding completedSet
   completing-none o s q v h z w = (
     v,
@@ -45,44 +46,44 @@ module _ (p : List ℕ) (n : ℕ) (ws : List ℕ) where
       bits = record {
         long = ap length (z ∙ ap (λ m. replicate m 0) h);
         below = λ j u. no-bit o s j h z (omega (arith, q .few));
-        above = λ j u m. no-bit o s j h z m ∙ sym (planned-past p n q (λ a k. completed (statesIn p n) ws k) j u m);
+        above = λ j u m. no-bit o s j h z m ∙ sym (planned-past p q (λ a k. completed (statesIn p) ws k) j u m);
       };
     },
   )
 
   -- one state's bit from the bits above it
-  turn : (s : List ℕ) (k : ℕ) → Planned p n → k < n → Upto (λ j. false) (has (completedSet (statesIn p n) ws)) (suc k) s →
-      completes (stateIn p k) (has ws k) (has s) ≡ has (completedSet (statesIn p n) ws) k
+  turn : (s : List ℕ) (k : ℕ) → Planned p → k < stateCount p → Upto (λ j. false) (has (completedSet (statesIn p) ws)) (suc k) s →
+      completes (stateIn p k) (has ws k) (has s) ≡ has (completedSet (statesIn p) ws) k
   turn s k q h u =
-      let b : List State = statesIn p n in
-      let l : length b ≡ n = states-long p n in
-      let e : getD b k TRUE ≡ stateIn p k = states-at p n k h in
-      let above : (i : ℕ) → k < i → has s i ≡ completed b ws i = λ i v. elim (decLt i 512) [
-        | yes m ↦ u .above i v m ∙ completed-bit p n ws i q m
+      let b : List State = statesIn p in
+      let l : length b ≡ stateCount p = states-long p in
+      let e : getD b k TRUE ≡ stateIn p k = states-at p k h in
+      let above : (i : ℕ) → k < i → has s i ≡ completed b ws i = λ i v. elim (decLt i mostStates) [
+        | yes m ↦ u .above i v m ∙ completed-bit p ws i q m
         | no m ↦ far-bit s i (u .long) (omega arith) ∙ sym (completed-past b ws i (omega (arith, q .few)))
       ] in
       completes-rests ws (stateIn p k) k (q .higher k h) (has s) (completed b ws) above
-      ∙ sym (completed-bit p n ws k q (omega (arith, q .few)) ∙ rw e at (completed-law b ws k (omega arith) (rw e (q .higher k h))))
+      ∙ sym (completed-bit p ws k q (omega (arith, q .few)) ∙ rw e at (completed-law b ws k (omega arith) (rw e (q .higher k h))))
 
-  pub completing-more : (s t : List ℕ) (i : ℕ) (x : Bool) → Completing p n ws s i → 0 < i →
-      x ≡ completes (planState (getD p (3 * (i - 1)) 0) (getD p (3 * (i - 1) + 1) 0) (getD p (3 * (i - 1) + 2) 0)) (has ws (i - 1)) (has s) →
-      t ≡ put s (i - 1) x → ((k : ℕ) → Fits w64 (getD t k 0)) → Completing p n ws t (i - 1)
+  pub completing-more : (s t : List ℕ) (i : ℕ) (x : Bool) → Completing p ws s i → 0 < i →
+      x ≡ completes (planState (getD p (planWidth * (i - 1)) 0) (getD p (planWidth * (i - 1) + 1) 0) (getD p (planWidth * (i - 1) + 2) 0)) (has ws (i - 1)) (has s) →
+      t ≡ put s (i - 1) x → ((k : ℕ) → Fits w64 (getD t k 0)) → Completing p ws t (i - 1)
   unfolding stateIn
   completing-more s t i x c h e f w =
       let z : suc (i - 1) ≡ i = omega arith in (
         c .0,
-        putting-down p n (λ j. false) (has (completedSet (statesIn p n) ws)) i s t x (c .1) h
+        putting-down p (λ j. false) (has (completedSet (statesIn p) ws)) i s t x (c .1) h
             (e ∙ turn s (i - 1) (c .1 .plan) (omega (arith, c .1 .within)) (rw z (c .1 .bits))) f w,
       )
 
-  pub completing-inside : (s : List ℕ) (i : ℕ) → Completing p n ws s i → 0 < i →
-      Inside (planState (getD p (3 * (i - 1)) 0) (getD p (3 * (i - 1) + 1) 0) (getD p (3 * (i - 1) + 2) 0)) 512
-  completing-inside s i c h = plan-inside p n (i - 1) (c .1 .plan) (omega (arith, c .1 .within))
+  pub completing-inside : (s : List ℕ) (i : ℕ) → Completing p ws s i → 0 < i →
+      Inside (planState (getD p (planWidth * (i - 1)) 0) (getD p (planWidth * (i - 1) + 1) 0) (getD p (planWidth * (i - 1) + 2) 0)) mostStates
+  completing-inside s i c h = plan-inside p (i - 1) (c .1 .plan) (omega (arith, c .1 .within))
 
-  pub completing-all : (s : List ℕ) (i : ℕ) → Completing p n ws s i → i ≤ 0 → s ≡ completedSet (statesIn p n) ws
+  pub completing-all : (s : List ℕ) (i : ℕ) → Completing p ws s i → i ≤ 0 → s ≡ completedSet (statesIn p) ws
   unfolding completedSet
   completing-all s i c h =
-      planned-ext p n (c .1 .plan) (λ a k. completed (statesIn p n) ws k) s (c .1 .bits .long) (c .1 .numbers) (λ j u. c .1 .bits .above j (omega arith) u)
+      planned-ext p (c .1 .plan) (λ a k. completed (statesIn p) ws k) s (c .1 .bits .long) (c .1 .numbers) (λ j u. c .1 .bits .above j (omega arith) u)
 
 pub ruleset complete-laws = (completing-none, completing-more, completing-all, completing-inside)
 
@@ -91,12 +92,12 @@ pub ruleset complete-laws = (completing-none, completing-more, completing-all, c
 unfoldable pub answered : List State → List ℕ → ℕ → List ℕ
 answered b ws x = setOf b (λ s k. givesStep x (has ws) s)
 
-abbrev pub Answering : List ℕ → ℕ → List ℕ → ℕ → List ℕ → ℕ → Type 0
-Answering p n ws x s i = (8 ≤ length ws) × Putting p n (has (answered (statesIn p n) ws x)) (λ j. false) i s
+abbrev pub Answering : List ℕ → List ℕ → ℕ → List ℕ → ℕ → Type 0
+Answering p ws x s i = (setWidth ≤ length ws) × Putting p (has (answered (statesIn p) ws x)) (λ j. false) i s
 
-module _ (p : List ℕ) (n : ℕ) (ws : List ℕ) (x : ℕ) where
-  pub answering-none : (o s : List ℕ) → Planned p n → 8 ≤ length ws → length o ≡ 8 → s ≡ replicate (length o) 0 →
-      ((k : ℕ) → Fits w64 (getD s k 0)) → Answering p n ws x s 0
+module _ (p : List ℕ) (ws : List ℕ) (x : ℕ) where
+  pub answering-none : (o s : List ℕ) → Planned p → setWidth ≤ length ws → length o ≡ setWidth → s ≡ replicate (length o) 0 →
+      ((k : ℕ) → Fits w64 (getD s k 0)) → Answering p ws x s 0
   answering-none o s q v h z w = (
     v,
     record {
@@ -107,27 +108,27 @@ module _ (p : List ℕ) (n : ℕ) (ws : List ℕ) (x : ℕ) where
     },
   )
 
-  pub answering-more : (s t : List ℕ) (i : ℕ) (a : Bool) → Answering p n ws x s i → i < n →
-      a ≡ givesStep x (has ws) (planState (getD p (3 * i) 0) (getD p (3 * i + 1) 0) (getD p (3 * i + 2) 0)) →
-      t ≡ put s i a → ((k : ℕ) → Fits w64 (getD t k 0)) → Answering p n ws x t (i + 1)
+  pub answering-more : (s t : List ℕ) (i : ℕ) (a : Bool) → Answering p ws x s i → i < stateCount p →
+      a ≡ givesStep x (has ws) (planState (getD p (planWidth * i) 0) (getD p (planWidth * i + 1) 0) (getD p (planWidth * i + 2) 0)) →
+      t ≡ put s i a → ((k : ℕ) → Fits w64 (getD t k 0)) → Answering p ws x t (i + 1)
   unfolding stateIn answered
   answering-more s t i a c h e f w = (
     c .0,
-    putting-up p n (has (answered (statesIn p n) ws x)) (λ j. false) i s t a (c .1) h
-        (e ∙ sym (planned-bit p n (c .1 .plan) (λ s k. givesStep x (has ws) s) i h)) f w,
+    putting-up p (has (answered (statesIn p) ws x)) (λ j. false) i s t a (c .1) h
+        (e ∙ sym (planned-bit p (c .1 .plan) (λ s k. givesStep x (has ws) s) i h)) f w,
   )
 
-  pub answering-inside : (s : List ℕ) (i : ℕ) → Answering p n ws x s i → i < n →
-      Inside (planState (getD p (3 * i) 0) (getD p (3 * i + 1) 0) (getD p (3 * i + 2) 0)) 512
-  answering-inside s i c h = plan-inside p n i (c .1 .plan) h
+  pub answering-inside : (s : List ℕ) (i : ℕ) → Answering p ws x s i → i < stateCount p →
+      Inside (planState (getD p (planWidth * i) 0) (getD p (planWidth * i + 1) 0) (getD p (planWidth * i + 2) 0)) mostStates
+  answering-inside s i c h = plan-inside p i (c .1 .plan) h
 
-  pub answering-all : (s : List ℕ) (i : ℕ) → Answering p n ws x s i → n ≤ i → s ≡ answered (statesIn p n) ws x
+  pub answering-all : (s : List ℕ) (i : ℕ) → Answering p ws x s i → stateCount p ≤ i → s ≡ answered (statesIn p) ws x
   unfolding answered
   answering-all s i c h =
-      planned-ext p n (c .1 .plan) (λ s k. givesStep x (has ws) s) s (c .1 .bits .long) (c .1 .numbers)
+      planned-ext p (c .1 .plan) (λ s k. givesStep x (has ws) s) s (c .1 .bits .long) (c .1 .numbers)
       (λ j u. elim (decLt j i) [
         | yes v ↦ c .1 .bits .below j v
-        | no v ↦ c .1 .bits .above j (omega arith) u ∙ sym (planned-past p n (c .1 .plan) (λ s k. givesStep x (has ws) s) j (omega arith) u)
+        | no v ↦ c .1 .bits .above j (omega arith) u ∙ sym (planned-past p (c .1 .plan) (λ s k. givesStep x (has ws) s) j (omega arith) u)
       ])
 
 pub ruleset answer-laws = (answering-none, answering-more, answering-all, answering-inside)
@@ -135,19 +136,19 @@ pub ruleset answer-laws = (answering-none, answering-more, answering-all, answer
 -- ── working out ──
 gives-agree : (s : State) (n x : ℕ) (f g : ℕ → Bool) → Inside s n → ((j : ℕ) → j < n → f j ≡ g j) → givesStep x f s ≡ givesStep x g s
 gives-agree TRUE n x f g h e = refl
-gives-agree (LEAF r c) n x f g h e = refl
+gives-agree (LEAF t) n x f g h e = refl
 gives-agree (AND i j) n x f g h e = refl
 gives-agree (OR i j) n x f g h e = refl
 gives-agree (NOT i) n x f g h e = refl
 gives-agree (STEP l s) n x f g h e = ap (λ (t : Bool). fits l x && t) (e s h)
 
 -- completing the asked set and answering it is the definition's working out
-pub worked-out : (p : List ℕ) (n : ℕ) (ws a o : List ℕ) (x : ℕ) → Planned p n → a ≡ completedSet (statesIn p n) ws → o ≡ answered (statesIn p n) a x →
-    o ≡ workOut (statesIn p n) (record { states = ws; label = x })
+pub worked-out : (p : List ℕ) (ws a o : List ℕ) (x : ℕ) → Planned p → a ≡ completedSet (statesIn p) ws → o ≡ answered (statesIn p) a x →
+    o ≡ workOut (statesIn p) (record { states = ws; label = x })
 unfolding workOut answered
-worked-out p n ws a o x q e f =
-    let b : List State = statesIn p n in
-    let l : length b ≡ n = states-long p n in
+worked-out p ws a o x q e f =
+    let b : List State = statesIn p in
+    let l : length b ≡ stateCount p = states-long p in
     f ∙ setOf-agree b (λ s k. givesStep x (has a) s) (λ s k. givesStep x (completed b ws) s)
-    (λ k h. let u : k < n = omega arith in let d : getD b k TRUE ≡ stateIn p k = states-at p n k u in
-    gives-agree (getD b k TRUE) n x (has a) (completed b ws) (rw d (q .inside k u)) (λ j v. rw e (completed-bit p n ws j q (omega (arith, q .few)))))
+    (λ k h. let u : k < stateCount p = omega arith in let d : getD b k TRUE ≡ stateIn p k = states-at p k u in
+    gives-agree (getD b k TRUE) (stateCount p) x (has a) (completed b ws) (rw d (q .inside k u)) (λ j v. rw e (completed-bit p ws j q (omega (arith, q .few)))))

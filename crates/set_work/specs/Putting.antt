@@ -9,24 +9,25 @@ use native.Mathlib.Decide.{ℕ-discrete}
 use lib.ListN.{length, getD, replicate, getD-replicate, List·getD-eq-default}
 use mir.Syntax.{w64}
 use mir.Val.{Fits}
-use Rattle.rules.specs.State.{State, TRUE, LEAF, AND, OR, NOT, STEP}
-use Rattle.rules.specs.Sets.{has, setOf}
+use Rattle.rules.specs.State.{State}
+use Rattle.rules.specs.Book.{mostStates}
+use Rattle.rules.specs.Sets.{setWidth, bitsEach, has, setOf}
 use Rattle.rules.specs.Match.Settle.{Inside}
 use Rattle.rules.specs.Sets.Laws.{put, Upto, upto-up, upto-down, set-ext, setOf-long, setOf-fits, has-setOf, has-past}
-use Rattle.book_plan.specs.Plan.{planState, stateIn, statesIn, Planned, states-long, states-at}
+use Rattle.book_plan.specs.Plan.{planWidth, planState, stateIn, stateCount, statesIn, Planned, states-long, states-at, inside-more}
 
 -- the bits of s are f below i and g from i on
-pub record Putting (p : List ℕ) (n : ℕ) (f g : ℕ → Bool) (i : ℕ) (s : List ℕ) : Type 0 where
-  pub plan : Planned p n
-  pub within : i ≤ n
+pub record Putting (p : List ℕ) (f g : ℕ → Bool) (i : ℕ) (s : List ℕ) : Type 0 where
+  pub plan : Planned p
+  pub within : i ≤ stateCount p
   pub numbers : (k : ℕ) → Fits w64 (getD s k 0)
   pub bits : Upto f g i s
 
-module _ (p : List ℕ) (n : ℕ) (f g : ℕ → Bool) (i : ℕ) (s t : List ℕ) (x : Bool) where
-  pub putting-up : Putting p n f g i s → i < n → x ≡ f i → t ≡ put s i x → ((k : ℕ) → Fits w64 (getD t k 0)) → Putting p n f g (i + 1) t
+module _ (p : List ℕ) (f g : ℕ → Bool) (i : ℕ) (s t : List ℕ) (x : Bool) where
+  pub putting-up : Putting p f g i s → i < stateCount p → x ≡ f i → t ≡ put s i x → ((k : ℕ) → Fits w64 (getD t k 0)) → Putting p f g (i + 1) t
   putting-up c h e z w = record { plan = c .plan; within = omega arith; numbers = w; bits = rw z (upto-up f g i s x (c .bits) (omega (arith, c .plan .few)) e) }
 
-  pub putting-down : Putting p n f g i s → 0 < i → x ≡ g (i - 1) → t ≡ put s (i - 1) x → ((k : ℕ) → Fits w64 (getD t k 0)) → Putting p n f g (i - 1) t
+  pub putting-down : Putting p f g i s → 0 < i → x ≡ g (i - 1) → t ≡ put s (i - 1) x → ((k : ℕ) → Fits w64 (getD t k 0)) → Putting p f g (i - 1) t
   putting-down c h e z w = record {
     plan = c .plan;
     within = omega (arith, c .within);
@@ -35,8 +36,8 @@ module _ (p : List ℕ) (n : ℕ) (f g : ℕ → Bool) (i : ℕ) (s t : List ℕ
   }
 
 -- upwards, where bit i is right as it stands
-pub putting-skip : (p : List ℕ) (n : ℕ) (f g : ℕ → Bool) (i : ℕ) (s : List ℕ) → Putting p n f g i s → i < n → g i ≡ f i → Putting p n f g (i + 1) s
-putting-skip p n f g i s c h e = record {
+pub putting-skip : (p : List ℕ) (f g : ℕ → Bool) (i : ℕ) (s : List ℕ) → Putting p f g i s → i < stateCount p → g i ≡ f i → Putting p f g (i + 1) s
+putting-skip p f g i s c h e = record {
   plan = c .plan;
   within = omega arith;
   numbers = c .numbers;
@@ -51,35 +52,27 @@ putting-skip p n f g i s c h e = record {
 }
 
 -- a cleared set has no bit
-pub no-bit : (o s : List ℕ) (j : ℕ) → length o ≡ 8 → s ≡ replicate (length o) 0 → j < 512 → has s j ≡ false
-no-bit o s j l e h = rw (e, l, getD-replicate {A = ℕ} 8 (j / 64) 0 0 (omega arith), zero-div)
+pub no-bit : (o s : List ℕ) (j : ℕ) → length o ≡ setWidth → s ≡ replicate (length o) 0 → j < mostStates → has s j ≡ false
+no-bit o s j l e h = rw (e, l, getD-replicate {A = ℕ} setWidth (j / bitsEach) 0 0 (omega arith), zero-div)
 
 -- nor has a set one past its eight numbers
-pub far-bit : (s : List ℕ) (j : ℕ) → length s ≡ 8 → 512 ≤ j → has s j ≡ false
-far-bit s j l h = rw (List·getD-eq-default s 0 {n = j / 64} (omega arith), zero-div)
+pub far-bit : (s : List ℕ) (j : ℕ) → length s ≡ setWidth → mostStates ≤ j → has s j ≡ false
+far-bit s j l h = rw (List·getD-eq-default s 0 {n = j / bitsEach} (omega arith), zero-div)
 
-inside-more : (s : State) (n m : ℕ) → n ≤ m → Inside s n → Inside s m
-inside-more TRUE n m h u = u
-inside-more (LEAF r c) n m h u = u
-inside-more (AND i j) n m h u = (omega (arith, u .0), omega (arith, u .1))
-inside-more (OR i j) n m h u = (omega (arith, u .0), omega (arith, u .1))
-inside-more (NOT i) n m h u = omega arith
-inside-more (STEP l i) n m h u = omega arith
-
-pub plan-inside : (p : List ℕ) (n k : ℕ) → Planned p n → k < n → Inside (planState (getD p (3 * k) 0) (getD p (3 * k + 1) 0) (getD p (3 * k + 2) 0)) 512
+pub plan-inside : (p : List ℕ) (k : ℕ) → Planned p → k < stateCount p → Inside (planState (getD p (planWidth * k) 0) (getD p (planWidth * k + 1) 0) (getD p (planWidth * k + 2) 0)) mostStates
 unfolding stateIn
-plan-inside p n k q h = inside-more (stateIn p k) n 512 (q .few) (q .inside k h)
+plan-inside p k q h = inside-more (stateIn p k) (stateCount p) mostStates (q .few) (q .inside k h)
 
 -- the set of the plan's states that pass a test: its bits, and what has them is it
-module _ (p : List ℕ) (n : ℕ) (q : Planned p n) (f : State → ℕ → Bool) where
-  pub planned-bit : (k : ℕ) → k < n → has (setOf (statesIn p n) f) k ≡ f (stateIn p k) k
+module _ (p : List ℕ) (q : Planned p) (f : State → ℕ → Bool) where
+  pub planned-bit : (k : ℕ) → k < stateCount p → has (setOf (statesIn p) f) k ≡ f (stateIn p k) k
   planned-bit k h =
-      let l : length (statesIn p n) ≡ n = states-long p n in
-      has-setOf (statesIn p n) f k (omega arith) (omega (arith, q .few)) ∙ ap (λ (s : State). f s k) (states-at p n k h)
+      let l : length (statesIn p) ≡ stateCount p = states-long p in
+      has-setOf (statesIn p) f k (omega arith) (omega (arith, q .few)) ∙ ap (λ (s : State). f s k) (states-at p k h)
 
-  pub planned-past : (k : ℕ) → n ≤ k → k < 512 → has (setOf (statesIn p n) f) k ≡ false
-  planned-past k h u = let l : length (statesIn p n) ≡ n = states-long p n in has-past (statesIn p n) f k (omega arith) u
+  pub planned-past : (k : ℕ) → stateCount p ≤ k → k < mostStates → has (setOf (statesIn p) f) k ≡ false
+  planned-past k h u = let l : length (statesIn p) ≡ stateCount p = states-long p in has-past (statesIn p) f k (omega arith) u
 
-  pub planned-ext : (s : List ℕ) → length s ≡ 8 → ((k : ℕ) → Fits w64 (getD s k 0)) →
-      ((k : ℕ) → k < 512 → has s k ≡ has (setOf (statesIn p n) f) k) → s ≡ setOf (statesIn p n) f
-  planned-ext s l w e = set-ext s (setOf (statesIn p n) f) l (setOf-long (statesIn p n) f) (λ i. w i .fits) (setOf-fits (statesIn p n) f) e
+  pub planned-ext : (s : List ℕ) → length s ≡ setWidth → ((k : ℕ) → Fits w64 (getD s k 0)) →
+      ((k : ℕ) → k < mostStates → has s k ≡ has (setOf (statesIn p) f) k) → s ≡ setOf (statesIn p) f
+  planned-ext s l w e = set-ext s (setOf (statesIn p) f) l (setOf-long (statesIn p) f) (λ i. w i .fits) (setOf-fits (statesIn p) f) e

@@ -5,14 +5,14 @@ use mathlib.Core.List.{List, [], _∷_}
 use Prim.Native.Nat.{ℕ}
 use native.Mathlib.Omega.{arith}
 use lib.ListN.{getD, replicate}
-use Rattle.rules.specs.Book.{statesOf}
+use Rattle.rules.specs.Book.{statesOf, meaningOf}
 use Rattle.rules.specs.Message.{Outcome, message}
-use Rattle.rules.specs.Memory.{nine}
+use Rattle.rules.specs.Memory.{slotWidth, nine}
 use Rattle.rules.specs.Pass.{Carried, answerRow}
-use Rattle.rules.specs.Run.{Lent, Returned}
+use Rattle.rules.specs.Run.{rowWidth, workspaceWidth, Lent, Returned}
 use Rattle.rules.specs.ASmallDay.Examples.{runShown, full}
 use Rattle.rules.specs.ASmallDay as Small
-use Rattle.rules.specs.Calls.{Totals, passRefusal, passFrom, QuestionLent, QuestionReturned, questionRefusal, answerQuestion}
+use Rattle.rules.specs.Calls.{Counts, passRefusal, passFrom, QuestionLent, QuestionReturned, questionRefusal, answerQuestion}
 use Rattle.rules.specs.Promise.{PassPromise, QuestionPromise}
 use Rattle.wrong_programs.specs.Runs.{workingOut, wrong, emptyTwo, askingWorkedOut, twoInOne, fromWrong}
 
@@ -35,16 +35,16 @@ oneMessage = record {
   book = Small.book;
   day = 1 ∷ 0 ∷ 10 ∷ 0 ∷ 0 ∷ 0 ∷ 12 ∷ 0 ∷ 0 ∷ 0 ∷ twoInOne;
   memory = wrong .memory;
-  answers = replicate 3 9;
-  workspace = replicate 650 5;
+  answers = replicate rowWidth 9;
+  workspace = replicate workspaceWidth 5;
 }
 
-abbrev pub oneFilled : Totals
+abbrev pub oneFilled : Counts
 oneFilled = record { asked = 0; anew = 0; filled = 1 }
 
 abbrev pub workedPass : Returned
 workedPass =
-    let o : Outcome (List ℕ) Carried = message (askingWorkedOut (statesOf Small.book)) twoInOne fromWrong in
+    let o : Outcome (List ℕ) Carried = message (askingWorkedOut (meaningOf Small.book)) twoInOne fromWrong in
     record {
       refusal = 0;
       asked = o .state .asked;
@@ -52,12 +52,12 @@ workedPass =
       filled = o .state .kept .filled;
       memory = o .state .kept .memory;
       answers = answerRow Small.book o;
-      workspace = replicate 650 0;
+      workspace = replicate workspaceWidth 0;
     }
 
 pub pass-shut : PassPromise oneMessage oneFilled workedPass → ⊥
 unfolding runShown passFrom passRefusal
-pass-shut p = let d : _≡_ {A = ℕ} 8192 full = ap (λ g. getD (g .memory) 17 0) p in omega arith
+pass-shut p = let d : _≡_ {A = ℕ} 8192 full = ap (λ g. getD (g .memory) slotWidth 0) p in omega arith
 
 -- the wrong answer reaches the row too: filters 10 and 30 are true of the message and filter 20 is not, where by the
 -- match rule filter 20 alone is

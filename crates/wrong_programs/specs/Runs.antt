@@ -9,14 +9,13 @@ use lib.ListN.{getD, drop, replicate}
 use Rattle.lists.specs.Choice.{pick}
 use Rattle.lists.specs.Parts.{part}
 use Rattle.rules.specs.State.{State}
-use Rattle.rules.specs.Book.{statesOf}
+use Rattle.rules.specs.Book.{statesOf, Meaning, meaningOf, outOfRange}
 use Rattle.rules.specs.DayFile.{messageCount}
-use Rattle.rules.specs.Value.{textValue}
 use Rattle.rules.specs.Message.{Keeper, message}
-use Rattle.rules.specs.Sets.{Question, noStates, either, leavesOf, workOut}
-use Rattle.rules.specs.Memory.{Kept, Reply, ask}
-use Rattle.rules.specs.Pass.{Carried, passMessage}
-use Rattle.rules.specs.Run.{Lent, Returned, refusedRun, run}
+use Rattle.rules.specs.Sets.{Question, noStates, either, workOut}
+use Rattle.rules.specs.Memory.{slotWidth, Kept, Reply, ask}
+use Rattle.rules.specs.Pass.{Carried, joinText, passMessage}
+use Rattle.rules.specs.Run.{rowWidth, Lent, Returned, refusedRun, run}
 use Rattle.rules.specs.Promise.{RunPromise}
 use Rattle.rules.specs.ASmallDay.Examples.{lending, runShown, full, wrongSlot}
 use Rattle.rules.specs.ASmallDay as Small
@@ -46,7 +45,7 @@ rowsBy row zero = []
 rowsBy row (suc k) = rowsBy row k ++ row k
 
 abbrev pub answersBy : (ℕ → List ℕ) → List ℕ
-answersBy row = rowsBy row (messageCount Small.day) ++ drop (3 * messageCount Small.day) (small .answers)
+answersBy row = rowsBy row (messageCount Small.day) ++ drop (rowWidth * messageCount Small.day) (small .answers)
 
 -- ── refusing each run, by whatever number: shut out by the refusal table ──
 abbrev pub refusing : ℕ → Returned
@@ -58,7 +57,7 @@ refusing-shut e p = let d : suc e ≡ 0 = ap (λ g. g .refusal) p in omega arith
 
 -- ── reporting one fixed set f of every message that is read, or no filter: demand 2; messages 1 and 3 have different ones, and neither has none ──
 abbrev pub fixedSet : ℕ → Returned
-fixedSet f = withAnswers (answersBy (λ k. getD (right .answers) (3 * k) 0 ∷ getD (right .answers) (3 * k + 1) 0 ∷ pick (eqb (getD (right .answers) (3 * k) 0) 0) f 0 ∷ []))
+fixedSet f = withAnswers (answersBy (λ k. getD (right .answers) (rowWidth * k) 0 ∷ getD (right .answers) (rowWidth * k + 1) 0 ∷ pick (eqb (getD (right .answers) (rowWidth * k) 0) 0) f 0 ∷ []))
 
 pub fixed-shut : (f : ℕ) → RunPromise small (fixedSet f) → ⊥
 unfolding runShown
@@ -83,7 +82,7 @@ nothing-shut p = let d : _≡_ {A = ℕ} 9 0 = ap (λ g. getD (g .answers) 0 0) 
 
 -- ── matching the first message and copying its row: demand 2; message 3 has filters 20 and 30, not 10 and 30 ──
 abbrev pub firstCopied : Returned
-firstCopied = withAnswers (answersBy (λ k. part (right .answers) 0 3))
+firstCopied = withAnswers (answersBy (λ k. part (right .answers) 0 rowWidth))
 
 pub copied-shut : RunPromise small firstCopied → ⊥
 unfolding runShown
@@ -110,7 +109,7 @@ workingOut b q k = record { answer = workOut b q; kept = ask b q k .kept }
 
 -- one filled slot says, wrongly, of an empty element 2 that it makes all 512 states match
 abbrev pub wrong : Kept
-wrong = record { memory = wrongSlot ++ replicate 17 7; anew = 0; filled = 1 }
+wrong = record { memory = wrongSlot ++ replicate slotWidth 7; anew = 0; filled = 1 }
 
 abbrev pub emptyTwo : Question
 emptyTwo = record { states = noStates; label = 2 }
@@ -125,12 +124,13 @@ unfolding runShown
 worked-shut p = let d : _≡_ {A = ℕ} 8192 full = ap (λ r. getD (r .answer) 0 0) p in omega arith
 
 -- the pass, with every question worked out
-abbrev pub askingWorkedOut : List State → Keeper (List ℕ) Carried
+abbrev pub askingWorkedOut : Meaning → Keeper (List ℕ) Carried
 askingWorkedOut b = record {
   fresh = noStates;
-  said = λ s set. either set (leavesOf b (textValue s));
+  bars = outOfRange b;
+  said = joinText b;
   shut = λ x set up c.
-      let r : Reply = workingOut b (record { states = set; label = x }) (c .kept) in
+      let r : Reply = workingOut (b .states) (record { states = set; label = x }) (c .kept) in
       (either up (r .answer), record { asked = c .asked + 1; kept = r .kept });
 }
 
@@ -142,6 +142,6 @@ abbrev pub fromWrong : Carried
 fromWrong = record { asked = 0; kept = wrong }
 
 -- the next question, in slot 2, asks the set that the wrong answer made: the slot's first number tells the two apart
-pub pass-worked-shut : message (askingWorkedOut (statesOf Small.book)) twoInOne fromWrong ≡ passMessage (statesOf Small.book) twoInOne fromWrong → ⊥
+pub pass-worked-shut : message (askingWorkedOut (meaningOf Small.book)) twoInOne fromWrong ≡ passMessage (meaningOf Small.book) twoInOne fromWrong → ⊥
 unfolding runShown
-pass-worked-shut p = let d : _≡_ {A = ℕ} 8192 full = ap (λ o. getD (o .state .kept .memory) 17 0) p in omega arith
+pass-worked-shut p = let d : _≡_ {A = ℕ} 8192 full = ap (λ o. getD (o .state .kept .memory) slotWidth 0) p in omega arith

@@ -13,8 +13,9 @@
 // holds eight full numbers, 1, and 1 0 0 0 0 0 0 0. `pass`: refusal 0, asked 2, anew 6, filled 2.
 // State 0 is at the root, so the filter is true: `row` is 0 0 1. Worked out by the match rule it would be 0 0 0, and
 // slot 2 would ask the empty set.
-ghost use Prim.Native.Nat.{_≤_};
+ghost use Prim.Native.Nat.{_*_, _≤_};
 ghost use lib.ListN.{length};
+ghost use Rattle.rules.specs.Memory.{slotWidth};
 use libc::STDOUT_FILENO;
 
 const FULL: u64 = 18446744073709551615;
@@ -39,42 +40,42 @@ fn put_part(word: &[u8], w: &[u64], from: usize, to: usize)
 }
 
 fn put_slots(memory: &[u64])
-    requires { ⌜ 34 ≤ length (now memory) ⌝ }
+    requires { ⌜ 2 * slotWidth ≤ length (now memory) ⌝ }
 {
-    put_part(b"slot", memory, 0, 17);
-    put_part(b"slot", memory, 17, 34);
+    put_part(b"slot", memory, 0, memory_slots::SLOT);
+    put_part(b"slot", memory, memory_slots::SLOT, 2 * memory_slots::SLOT);
 }
 
 // The inner call, asked what slot 1 asks.
 fn ask_it(book: &[u8], memory: &mut [u64]) {
-    let mut q = [0u64; 9];
-    q[8] = 2;
-    let mut answer = [0u64; 8];
+    let mut q = [0u64; memory_slots::QUESTION];
+    q[set_bits::WIDTH] = 2;
+    let mut answer = [0u64; set_bits::WIDTH];
     let r = memory_question::answer_question(book, memory, 1, 5, &q, &mut answer);
     put_part(b"inner", &[r.refusal, r.anew, r.filled as u64], 0, 3);
-    put_part(b"answer", &answer, 0, 8);
+    put_part(b"answer", &answer, 0, set_bits::WIDTH);
 }
 
 // The pass from the one filled slot.
 fn pass_it(book: &[u8], memory: &mut [u64]) {
     let day =
         b"\x01\x00\x0a\x00\x00\x00\x0c\x00\x00\x00\x01\x01\x00\x01\x02\x00\x03\x02\x00\x03\x01\x00";
-    let mut answers = [9u64; 3];
-    let mut ws = [5u64; 650];
-    let r = day_run::pass_from(book, day, memory, &mut answers, &mut ws, 0, 5, 1);
+    let mut answers = [9u64; day_pass::ROW];
+    let mut workspace = [5u64; message_levels::WORKSPACE];
+    let r = day_run::pass_from(book, day, memory, &mut answers, &mut workspace, 0, 5, 1);
     put_part(
         b"pass",
         &[r.refusal, r.asked, r.anew, r.filled as u64],
         0,
         4,
     );
-    put_part(b"row", &answers, 0, 3);
+    put_part(b"row", &answers, 0, day_pass::ROW);
 }
 
 fn main() {
     let book =
         b"\x01\x00\x0a\x00\x00\x00\x0a\x00\x03\x00\x05\x00\x01\x00\x01\x00\x00\x00\x05\x00\x03\x00\x02\x00\x00\x00\x00\x00\x00\x00\x00\x00\x00\x00";
-    let mut memory = [0u64; 34];
+    let mut memory = [0u64; 2 * memory_slots::SLOT];
     memory[8] = 2;
     memory[9] = FULL;
     memory[10] = FULL;

@@ -16,14 +16,12 @@ bodies-astray-spec =
     (tie.spec
     Inv-loop μ-loop
     (λ c κs. search needs)  -- filter-count-requires
-    (λ c. search needs)  -- mul-place
-    (λ c. search needs)  -- add-place
+    (λ c κs. search needs)  -- contents-end-requires
     (λ c. search (placed-none, needs))  -- loop-holds
     (λ c κs. search needs)  -- body-start-requires
     (λ c. search (placed-hit, needs))  -- returns
-    (λ c κs. search needs)  -- body-size-requires
-    (λ c. search needs)  -- mul-place-2
-    (λ c. search needs)  -- add-place-2
+    (λ c κs. search needs)  -- body-length-requires
+    (λ c. search needs)  -- add-place
     (λ c. search needs)  -- add-k
     (λ c. search needs)  -- loop-less
     (λ c. search (placed-next, needs))  -- loop-again

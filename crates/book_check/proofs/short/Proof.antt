@@ -8,7 +8,5 @@ short-spec =
     tie.close
     (tie.spec
     (λ c. search (short-bare, needs))  -- returns
-    (λ c κs. search needs)  -- filter-count-requires
-    (λ c. search needs)  -- mul-result
-    (λ c. search needs)  -- add-result
+    (λ c κs. search needs)  -- contents-end-requires
     (λ c. search (short-is, needs)))  -- returns-2

@@ -2,9 +2,6 @@ use Rattle.rules.specs.Book.{filterCount}
 use borrow.Author.Needs.{needs}
 use Rattle.book_contents.proofs.filter_count.Statement.{statement}
 use Rattle.book_contents.proofs.filter_count.Tie as tie
-use Rattle.book_contents.proofs.filter_count.Reads as reads
-use Rattle.book_contents.proofs.filter_count.Lts as lts
-use Rattle.number_bytes.proofs.read2.Reads as read2-reads
 
 returns : tie.Need-returns
 unfolding filterCount

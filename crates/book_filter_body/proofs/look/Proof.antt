@@ -20,8 +20,7 @@ look-spec =
     (λ c. search needs)  -- sub-k
     (λ c κs. search (looking-entry, needs))  -- id-of-requires
     (λ c κs. search (looking-entry, needs))  -- body-start-requires
-    (λ c κs. search (looking-entry, needs))  -- body-size-requires
-    (λ c. search needs)  -- mul-t8
+    (λ c κs. search (looking-entry, needs))  -- body-length-requires
     (λ c. search (looking-hit, needs))  -- returns
     (λ c. search needs)  -- loop-less
     (λ c. search (looking-next, needs))  -- loop-again

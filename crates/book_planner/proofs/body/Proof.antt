@@ -1,7 +1,7 @@
-use borrow.Author.Needs.{needs}
 use Prim.Native.Nat.{_-_, _≤_}
-use native.Mathlib.Omega.{arith}
 use Rattle.book_planner.specs.Make.{Body, body-laws, body-more}
+use borrow.Author.Needs.{needs}
+use native.Mathlib.Omega.{arith}
 use Rattle.book_planner.proofs.body.Statement.{statement}
 use Rattle.book_planner.proofs.body.Tie as tie
 
@@ -17,12 +17,11 @@ body-spec =
     (tie.spec
     Inv-loop μ-loop
     (λ c. search (body-laws, needs))  -- loop-holds
-    (λ c. search (body-laws, needs))  -- mul-row
+    (λ c κs. search (body-laws, needs))  -- state-at-requires
     (λ c. search (body-laws, needs))  -- add-row
-    (λ c. search (body-laws, needs))  -- add-row-2
     (λ c κs. search (body-laws, needs))  -- row-requires
     (λ c. search (body-laws, needs))  -- add-i
     (λ c. search (body-laws, needs))  -- loop-less
-    (λ c. (search needs, body-more _ _ _ _ _ _ _ (c .before .before .before .before .before .loop .inv .1) (omega arith) (c .before .before .row .ensures .0) (c .before .before .row .ensures .1)))  -- loop-again
+    (λ c. let r = c .before .before .row .ensures in (search needs, body-more _ _ _ _ _ _ _ _ (c .before .before .before .before .before .before .loop .inv .1) (omega arith) (search needs) (r .0) (r .1)))  -- loop-again
     (λ c. search (body-laws, needs))  -- same-length
     (λ c. search (body-laws, needs)))  -- returns

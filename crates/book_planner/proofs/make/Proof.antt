@@ -24,5 +24,6 @@ make-spec =
     (λ c. search (make-laws, needs))  -- add-k
     (λ c. search (make-laws, needs))  -- loop-less
     (λ c. search (make-laws, needs))  -- loop-again
+    (λ c. search (make-laws, needs))  -- mul-result
     (λ c. search (make-laws, needs))  -- same-length
     (λ c. search (make-laws, needs)))  -- returns

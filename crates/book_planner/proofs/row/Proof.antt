@@ -11,7 +11,7 @@ returns c =
     let r22 = r4 .before in
     let r2 = r22 .before in
     row-done _ _ _ _ _ _ _ _ _ _ _ _ _ (r2 .before .before .byte .ensures .0) (r2 .before .byte2 .ensures .0) (r2 .read2 .ensures .0) (r22 .read22 .ensures .0) (r4 .read4 .ensures .0)
-    (f .first .ensures) (s .second .ensures) (c .before .before .write .ensures) (r2 .before .before .before .before .before .pre .2)
+    (f .first .ensures) (s .second .ensures) (c .before .before .write .ensures) (r2 .before .before .before .before .before .pre .1)
 
 pub row-spec : {M : Type 1} → statement M
 row-spec =

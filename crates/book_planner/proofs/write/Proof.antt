@@ -9,16 +9,14 @@ pub write-spec : {M : Type 1} → statement M
 write-spec =
     tie.close
     (tie.spec
+    (λ c. search needs)  -- mul-a
     (λ c. search needs)  -- mul-plan
-    (λ c. search needs)  -- mul-plan-2
     (λ c. search needs)  -- slice-write-plan
-    (λ c. search needs)  -- mul-plan-3
     (λ c. search needs)  -- add-plan
-    (λ c. search needs)  -- mul-plan-4
+    (λ c. search needs)  -- mul-plan-2
     (λ c. simp length-set (omega arith))  -- slice-write-plan-2
-    (λ c. search needs)  -- mul-plan-5
     (λ c. search needs)  -- add-plan-2
-    (λ c. search needs)  -- mul-plan-6
+    (λ c. search needs)  -- mul-plan-3
     (λ c. simp length-set (omega arith))  -- slice-write-plan-3
     (λ c. search needs)  -- same-length
     (λ c. search (wrote-is, needs)))  -- returns

@@ -1,12 +1,12 @@
 use borrow.Author.Needs.{needs}
 use Prim.Native.Nat.{_-_}
 use Rattle.lists.specs.Below.Searched.{Searched, searched-none, searched-next, searched-hit, searched-all}
-use Rattle.book_rows.specs.Rows.{rowsOf, inside, rows-of-is, bad-rows-is}
+use Rattle.book_rows.specs.Rows.{noRow, someOf, inside, body-is, bad-rows-is}
 use Rattle.book_rows.proofs.bad_rows.Statement.{statement}
 use Rattle.book_rows.proofs.bad_rows.Tie as tie
 
 abbrev Inv-loop : tie.InvT-loop
-Inv-loop book f k₀ k = Searched (rowsOf book) f k
+Inv-loop book f k₀ k = Searched (someOf noRow book) f k
 
 abbrev μ-loop : tie.MeasureT-loop
 μ-loop book f k₀ k = f - k
@@ -21,8 +21,8 @@ bad-rows-spec =
     (λ c κs. search needs)  -- body-start-requires
     (λ c κs. search needs)  -- body-size-requires
     (λ c κs. search (inside, needs))  -- bad-rows-of-requires
-    (λ c. search (bad-rows-is, searched-hit, rows-of-is, needs))  -- returns
+    (λ c. search (bad-rows-is, searched-hit, body-is, needs))  -- returns
     (λ c. search needs)  -- add-k
     (λ c. search needs)  -- loop-less
-    (λ c. search (searched-next, rows-of-is, needs))  -- loop-again
+    (λ c. search (searched-next, body-is, needs))  -- loop-again
     (λ c. search (bad-rows-is, searched-all, needs)))  -- returns-2

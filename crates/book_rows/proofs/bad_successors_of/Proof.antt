@@ -1,7 +1,7 @@
 use borrow.Author.Needs.{needs}
 use Prim.Native.Nat.{_-_}
 use Rattle.lists.specs.Below.Searched.{Searched, searched-none, searched-next, searched-hit, searched-all}
-use Rattle.book_rows.specs.Rows.{astray}
+use Rattle.book_rows.specs.Rows.{astray, astray-at}
 use Rattle.book_rows.proofs.bad_successors_of.Statement.{statement}
 use Rattle.book_rows.proofs.bad_successors_of.Tie as tie
 
@@ -17,11 +17,10 @@ bad-successors-of-spec =
     (tie.spec
     Inv-loop μ-loop
     (λ c. search (searched-none, needs))  -- loop-holds
-    (λ c. search needs)  -- mul-leads-astray
-    (λ c. search needs)  -- add-leads-astray
+    (λ c κs. search needs)  -- state-at-requires
     (λ c κs. search needs)  -- leads-astray-requires
-    (λ c. search (searched-hit, needs))  -- returns
+    (λ c. search (searched-hit, astray-at, needs))  -- returns
     (λ c. search needs)  -- add-i
     (λ c. search needs)  -- loop-less
-    (λ c. search (searched-next, needs))  -- loop-again
+    (λ c. search (searched-next, astray-at, needs))  -- loop-again
     (λ c. search (searched-all, needs)))  -- returns-2

@@ -1,11 +1,13 @@
+use Rattle.day_check.specs.Entries.{length-is}
 use borrow.Author.Needs.{needs}
-use Rattle.rules.specs.DayFile.{messageLength}
 use Rattle.day_check.proofs.message_length.Statement.{statement}
 use Rattle.day_check.proofs.message_length.Tie as tie
 
-returns : tie.Need-returns
-unfolding messageLength
-returns c = search needs
-
 pub message-length-spec : {M : Type 1} → statement M
-message-length-spec = tie.close (tie.spec (λ c. search needs) (λ c. search needs) (λ c. search needs) (λ c κs. search needs) returns)
+message-length-spec =
+    tie.close
+    (tie.spec
+    (λ c κs. search needs)  -- entry-at-requires
+    (λ c. search needs)  -- add-read4
+    (λ c κs. search needs)  -- read4-requires
+    (λ c. search (length-is, needs)))  -- returns

@@ -16,13 +16,12 @@ messages-astray-spec =
     (tie.spec
     Inv-loop μ-loop
     (λ c κs. search needs)  -- message-count-requires
-    (λ c. search needs)  -- mul-place
-    (λ c. search needs)  -- add-place
+    (λ c κs. search needs)  -- entry-at-requires
     (λ c. search (placed-none, needs))  -- loop-holds
     (λ c κs. search needs)  -- message-start-requires
     (λ c. search (placed-hit, needs))  -- returns
     (λ c κs. search needs)  -- message-length-requires
-    (λ c. search needs)  -- add-place-2
+    (λ c. search needs)  -- add-place
     (λ c. search needs)  -- add-k
     (λ c. search needs)  -- loop-less
     (λ c. search (placed-next, needs))  -- loop-again

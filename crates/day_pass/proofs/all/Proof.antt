@@ -9,10 +9,11 @@ use Rattle.day_check.proofs.message_count.Reads as message-count-reads
 use Rattle.day_pass.proofs.one.Reads as one-reads
 
 abbrev Inv-loop : tie.InvT-loop
-Inv-loop book day plan n table₀ memory₀ answers₀ ws₀ count c₀ k₀ table memory answers ws c k = Passing book day table₀ memory₀ answers₀ ws₀ c₀ count table memory answers ws c k
+Inv-loop book day plan index₀ memory₀ answers₀ workspace₀ count c₀ k₀ index memory answers workspace c k =
+    Passing book day index₀ memory₀ answers₀ workspace₀ c₀ count index memory answers workspace c k
 
 abbrev μ-loop : tie.MeasureT-loop
-μ-loop book day plan n table₀ memory₀ answers₀ ws₀ count c₀ k₀ table memory answers ws c k = count - k
+μ-loop book day plan index₀ memory₀ answers₀ workspace₀ count c₀ k₀ index memory answers workspace c k = count - k
 
 pub all-spec : {M : Type 1} → statement M
 all-spec =

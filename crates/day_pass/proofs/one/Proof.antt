@@ -2,10 +2,6 @@ use Rattle.day_pass.specs.Passing.{message-written}
 use borrow.Author.Needs.{needs}
 use Rattle.day_pass.proofs.one.Statement.{statement}
 use Rattle.day_pass.proofs.one.Tie as tie
-use Rattle.day_pass.proofs.one.Reads as reads
-use Rattle.day_pass.proofs.one.Lts as lts
-use Rattle.day_pass.proofs.message.Reads as message-reads
-use Rattle.day_pass.proofs.write_row.Reads as write-row-reads
 
 pub one-spec : {M : Type 1} → statement M
 one-spec =

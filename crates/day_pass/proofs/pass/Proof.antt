@@ -5,7 +5,6 @@ use Rattle.day_pass.proofs.pass.Tie as tie
 use Rattle.day_pass.proofs.pass.Reads as reads
 use Rattle.day_pass.proofs.pass.Lts as lts
 use Rattle.day_pass.proofs.all.Reads as all-reads
-use Rattle.day_pass.proofs.clear_levels.Reads as clear-levels-reads
 
 pub pass-spec : {M : Type 1} → statement M
 pass-spec =

@@ -20,12 +20,12 @@ use Rattle.lists.specs.Below.Laws.{flags-lt}
 use Rattle.lists.specs.Same.{sameList}
 use Rattle.lists.specs.Checks
 use Rattle.rules.specs.State.{State}
-use Rattle.rules.specs.Book.{filterCount, statesBefore, statesOf}
+use Rattle.rules.specs.Book.{filterCount, statesBefore, statesOf, meaningOf}
 use Rattle.rules.specs.DayFile.{messageCount, messageStart, messageLength, messageBody}
 use Rattle.rules.specs.Tree.{Forest, childless, tree, Content}
 use Rattle.rules.specs.Match.{matches, filtersWhere, acceptedFilters, MatchRule}
 use Rattle.rules.specs.Sets.{Question, bitAt}
-use Rattle.rules.specs.Memory.{nine, slotQuestion, slotAnswer, slotsLent, Kept, firstSlot, ask, FirstToAsk, slotsWritten}
+use Rattle.rules.specs.Memory.{slotWidth, nine, slotQuestion, slotAnswer, slotsLent, Kept, firstSlot, ask, FirstToAsk, slotsWritten}
 use Rattle.rules.specs.Asked.{readTree, dayQuestions, firstDifferent, notKept, messageRow, HeldRight, dayNodes, treeRows}
 use Rattle.rules.specs.Message.{Event}
 use Rattle.rules.specs.Message.Place.{refused-at, refused-where}
@@ -33,7 +33,7 @@ use Rattle.rules.specs.MessageTable.{rootAlone, opensAfter, messageRows}
 use Rattle.rules.specs.MessageTable.Refused.{refused-row, read-place}
 use Rattle.rules.specs.Written.{written, messageShaped, writtenEvents, AreBytes, IsMessage, Begins, Stuck}
 use Rattle.lists.specs.Checks.{FirstToFail}
-use Rattle.rules.specs.Run.{Lent, Returned, runRefusal, refusedRun, passDay, runBy, run, runChecks, withMemory}
+use Rattle.rules.specs.Run.{rowWidth, workspaceWidth, Lent, Returned, runRefusal, refusedRun, passDay, runBy, run, runChecks, withMemory}
 use Rattle.rules.specs.Run.Laws.{refused-exactly, run-refused}
 use Rattle.rules.specs.Promise.{RunPromise}
 use Rattle.rules.specs.Order.{Reordered, nothing, keep, swap, then}
@@ -43,6 +43,7 @@ use Rattle.rules.specs.Written.Read.{read-exactly}
 use Rattle.rules.specs.Book.Fine.{book-reading}
 use Rattle.rules.specs.Run.Day.{few-states, dayReturned, day-is, memory-apart, rows-long, row-at, slot-right, day-nodes}
 use Rattle.rules.specs.Order.Laws.{filters-reordered}
+use Rattle.demands.specs.Words.{meaning}
 
 -- ── a message of a day file of bytes is one of bytes ──
 bytes-part : (day : List ℕ) (k : ℕ) → ((i : ℕ) → getD day i 0 < 256) → (i : ℕ) → getD (messageBody day k) i 0 < 256
@@ -89,61 +90,61 @@ module _ (l : Lent) (g : Returned) (p : RunPromise l g) where
     pub given-is : g ≡ dayReturned l
     given-is = p ∙ day-is l accepted
 
-    pub given-row : (k : ℕ) → k < messageCount (l .day) → part (g .answers) (3 * k) 3 ≡ messageRow (l .book) (messageBody (l .day) k)
+    pub given-row : (k : ℕ) → k < messageCount (l .day) → part (g .answers) (rowWidth * k) rowWidth ≡ messageRow (l .book) (messageBody (l .day) k)
     unfolding dayReturned
-    given-row k h = ap (λ r. part (r .answers) (3 * k) 3) given-is ∙ row-at (l .book) (l .day) _ (messageCount (l .day)) k h
+    given-row k h = ap (λ r. part (r .answers) (rowWidth * k) rowWidth) given-is ∙ row-at (l .book) (l .day) _ (messageCount (l .day)) k h
 
-    given-number : (k i : ℕ) → k < messageCount (l .day) → i < 3 → getD (g .answers) (3 * k + i) 0 ≡ getD (messageRow (l .book) (messageBody (l .day) k)) i 0
+    given-number : (k i : ℕ) → k < messageCount (l .day) → i < rowWidth → getD (g .answers) (rowWidth * k + i) 0 ≡ getD (messageRow (l .book) (messageBody (l .day) k)) i 0
     unfolding part
-    given-number k i h u = sym (getD-drop (3 * k) (g .answers) i 0) ∙ sym (getD-take 3 (drop (3 * k) (g .answers)) i 0 u) ∙ ap (λ r. getD r i 0) (given-row k h)
+    given-number k i h u = sym (getD-drop (rowWidth * k) (g .answers) i 0) ∙ sym (getD-take rowWidth (drop (rowWidth * k) (g .answers)) i 0 u) ∙ ap (λ r. getD r i 0) (given-row k h)
 
-    pub given-refusal : (k : ℕ) → k < messageCount (l .day) → getD (g .answers) (3 * k) 0 ≡ readTree (messageBody (l .day) k) .refusal
+    pub given-refusal : (k : ℕ) → k < messageCount (l .day) → getD (g .answers) (rowWidth * k) 0 ≡ readTree (meaning l) (messageBody (l .day) k) .refusal
     given-refusal k h = rw add-zero at (given-number k 0 h (omega arith))
 
-    pub given-place : (k : ℕ) → k < messageCount (l .day) → getD (g .answers) (3 * k + 1) 0 ≡ readTree (messageBody (l .day) k) .place
+    pub given-place : (k : ℕ) → k < messageCount (l .day) → getD (g .answers) (rowWidth * k + 1) 0 ≡ readTree (meaning l) (messageBody (l .day) k) .place
     given-place k h = given-number k 1 h (omega arith)
 
     -- a refused message: its number, its place, and that it is none
     module _ (k : ℕ) (h : k < messageCount (l .day)) (w : AreBytes (l .day)) where
       pub given-row-number : (evs : List Event) (rest : List ℕ) → messageBody (l .day) k ≡ writtenEvents evs ++ rest → (n : ℕ) → 0 < n →
-          ((getD (g .answers) (3 * k) 0 ≡ n) × (getD (g .answers) (3 * k + 1) 0 ≡ length (writtenEvents evs)))
-          ↔ (Begins (writtenEvents evs) × FirstToFail (messageRows (opensAfter rootAlone evs) rest) n)
+          ((getD (g .answers) (rowWidth * k) 0 ≡ n) × (getD (g .answers) (rowWidth * k + 1) 0 ≡ length (writtenEvents evs)))
+          ↔ (Begins (meaning l) (writtenEvents evs) × FirstToFail (messageRows (meaning l) (opensAfter rootAlone evs) rest) n)
       given-row-number evs rest b n z =
-          rw (given-refusal k h, given-place k h, b) (refused-row evs rest (rw b at (bytes-part (l .day) k w)) n z)
+          rw (given-refusal k h, given-place k h, b) (refused-row (meaning l) evs rest (rw b at (bytes-part (l .day) k w)) n z)
 
       pub given-there : (evs : List Event) (rest : List ℕ) → messageBody (l .day) k ≡ writtenEvents evs ++ rest →
-          ((0 < getD (g .answers) (3 * k) 0) × (getD (g .answers) (3 * k + 1) 0 ≡ length (writtenEvents evs)))
-          ↔ (Begins (writtenEvents evs) × (IsMessage (messageBody (l .day) k) → ⊥) × Stuck evs rest)
-      given-there evs rest b = rw (given-refusal k h, given-place k h, b) (refused-at evs rest (rw b at (bytes-part (l .day) k w)))
+          ((0 < getD (g .answers) (rowWidth * k) 0) × (getD (g .answers) (rowWidth * k + 1) 0 ≡ length (writtenEvents evs)))
+          ↔ (Begins (meaning l) (writtenEvents evs) × (IsMessage (meaning l) (messageBody (l .day) k) → ⊥) × Stuck (meaning l) evs rest)
+      given-there evs rest b = rw (given-refusal k h, given-place k h, b) (refused-at (meaning l) evs rest (rw b at (bytes-part (l .day) k w)))
 
-      pub given-where : 0 < getD (g .answers) (3 * k) 0 →
-          (evs : List Event) × (rest : List ℕ) × (messageBody (l .day) k ≡ writtenEvents evs ++ rest) × (getD (g .answers) (3 * k + 1) 0 ≡ length (writtenEvents evs))
-      given-where n = rw (given-place k h) (refused-where (messageBody (l .day) k) (bytes-part (l .day) k w) (rw (given-refusal k h) at n))
+      pub given-where : 0 < getD (g .answers) (rowWidth * k) 0 →
+          (evs : List Event) × (rest : List ℕ) × (messageBody (l .day) k ≡ writtenEvents evs ++ rest) × (getD (g .answers) (rowWidth * k + 1) 0 ≡ length (writtenEvents evs))
+      given-where n = rw (given-place k h) (refused-where (meaning l) (messageBody (l .day) k) (bytes-part (l .day) k w) (rw (given-refusal k h) at n))
 
-    pub given-read-place : (k : ℕ) → k < messageCount (l .day) → getD (g .answers) (3 * k) 0 ≡ 0 → getD (g .answers) (3 * k + 1) 0 ≡ 0
-    given-read-place k h e = given-place k h ∙ read-place (messageBody (l .day) k) (sym (given-refusal k h) ∙ e)
+    pub given-read-place : (k : ℕ) → k < messageCount (l .day) → getD (g .answers) (rowWidth * k) 0 ≡ 0 → getD (g .answers) (rowWidth * k + 1) 0 ≡ 0
+    given-read-place k h e = given-place k h ∙ read-place (meaning l) (messageBody (l .day) k) (sym (given-refusal k h) ∙ e)
 
-    pub given-refused : (k : ℕ) → k < messageCount (l .day) → (getD (g .answers) (3 * k) 0 ≡ 0 → ⊥) → getD (g .answers) (3 * k + 2) 0 ≡ 0
+    pub given-refused : (k : ℕ) → k < messageCount (l .day) → (getD (g .answers) (rowWidth * k) 0 ≡ 0 → ⊥) → getD (g .answers) (rowWidth * k + 2) 0 ≡ 0
     given-refused k h ne = given-number k 2 h (omega arith) ∙ pick-false _ _ _ (ne-eqb _ 0 (λ r. ne (given-refusal k h ∙ r)))
 
-    pub given-read : (k : ℕ) → k < messageCount (l .day) → getD (g .answers) (3 * k) 0 ≡ 0 →
-        getD (g .answers) (3 * k + 2) 0 ≡ acceptedFilters (l .book) (readTree (messageBody (l .day) k) .root)
+    pub given-read : (k : ℕ) → k < messageCount (l .day) → getD (g .answers) (rowWidth * k) 0 ≡ 0 →
+        getD (g .answers) (rowWidth * k + 2) 0 ≡ acceptedFilters (l .book) (readTree (meaning l) (messageBody (l .day) k) .root)
     given-read k h r = given-number k 2 h (omega arith) ∙ pick-true _ _ _ (eq-eqb _ 0 (sym (given-refusal k h) ∙ r))
 
     pub given-tree : (k : ℕ) → k < messageCount (l .day) → ((i : ℕ) → getD (l .day) i 0 < 256) → (root : Content) →
-        ((getD (g .answers) (3 * k) 0 ≡ 0) × (readTree (messageBody (l .day) k) .root ≡ root))
-        ↔ ((messageBody (l .day) k ≡ written (root .children)) × (messageShaped root ≡ true))
-    given-tree k h w root = rw (given-refusal k h) (read-exactly (messageBody (l .day) k) (bytes-part (l .day) k w) root)
+        ((getD (g .answers) (rowWidth * k) 0 ≡ 0) × (readTree (meaning l) (messageBody (l .day) k) .root ≡ root))
+        ↔ ((messageBody (l .day) k ≡ written (root .children)) × (messageShaped (meaning l) root ≡ true))
+    given-tree k h w root = rw (given-refusal k h) (read-exactly (meaning l) (messageBody (l .day) k) (bytes-part (l .day) k w) root)
 
-    pub given-reading : (m : Content → ℕ → Bool) → MatchRule (statesOf (l .book)) m → (n : Content) (j : ℕ) → j < length (statesOf (l .book)) → m n j ≡ matches (statesOf (l .book)) n j
+    pub given-reading : (m : Content → ℕ → Bool) → MatchRule (meaning l) m → (n : Content) (j : ℕ) → j < length (statesOf (l .book)) → m n j ≡ matches (meaning l) n j
     given-reading = book-reading l accepted
 
     -- past what is written
-    pub answers-past : drop (3 * messageCount (l .day)) (g .answers) ≡ drop (3 * messageCount (l .day)) (l .answers)
+    pub answers-past : drop (rowWidth * messageCount (l .day)) (g .answers) ≡ drop (rowWidth * messageCount (l .day)) (l .answers)
     unfolding dayReturned
-    answers-past = ap (λ r. drop (3 * messageCount (l .day)) (r .answers)) given-is ∙ drop-at (treeRows (l .book) (l .day) (messageCount (l .day))) _ _ (rows-long (l .book) (l .day) (messageCount (l .day)))
+    answers-past = ap (λ r. drop (rowWidth * messageCount (l .day)) (r .answers)) given-is ∙ drop-at (treeRows (l .book) (l .day) (messageCount (l .day))) _ _ (rows-long (l .book) (l .day) (messageCount (l .day)))
 
-    pub workspace-is : g .workspace ≡ replicate 650 0 ++ drop 650 (l .workspace)
+    pub workspace-is : g .workspace ≡ replicate workspaceWidth 0 ++ drop workspaceWidth (l .workspace)
     unfolding dayReturned
     workspace-is = ap (λ r. r .workspace) given-is
 
@@ -161,14 +162,14 @@ module _ (l : Lent) (g : Returned) (p : RunPromise l g) where
     filled-is = ap (λ r. r .filled) given-is
 
     pub memory-is : g .memory ≡ slotsWritten (statesOf (l .book)) (firstDifferent (slotsLent (l .memory)) (dayQuestions (l .book) (l .day)))
-        ++ drop (17 * length (firstDifferent (slotsLent (l .memory)) (dayQuestions (l .book) (l .day)))) (l .memory)
+        ++ drop (slotWidth * length (firstDifferent (slotsLent (l .memory)) (dayQuestions (l .book) (l .day)))) (l .memory)
     unfolding dayReturned
     memory-is = ap (λ r. r .memory) given-is
 
-    pub slots-right : (i : ℕ) → i < g .filled → HeldRight (statesOf (l .book)) (dayNodes (l .day)) (g .memory) i
+    pub slots-right : (i : ℕ) → i < g .filled → HeldRight (meaning l) (dayNodes (meaning l) (l .day)) (g .memory) i
     slots-right i h =
         rw (memory-is, day-nodes (l .book) (l .day))
-        (slot-right (statesOf (l .book)) (few-states l accepted) (dayNodes (l .day)) (slotsLent (l .memory)) _ i (rw (filled-is, day-nodes (l .book) (l .day)) at h))
+        (slot-right (meaning l) (few-states l accepted) (dayNodes (meaning l) (l .day)) (slotsLent (l .memory)) _ i (rw (filled-is, day-nodes (l .book) (l .day)) at h))
 
 -- ── another memory lent ──
 pub any-memory : (l : Lent) (m : List ℕ) (g h : Returned) → RunPromise l g → RunPromise (withMemory l m) h →
@@ -220,9 +221,9 @@ flags-bit f (suc n) k h = elim (decLt k n) [
         one true = refl
         one false = refl
 
-pub accepted-bit : (book : List ℕ) (root : Content) (i : ℕ) → i < filterCount book → bitAt (acceptedFilters book root) i ≡ matches (statesOf book) root (statesBefore book i)
+pub accepted-bit : (book : List ℕ) (root : Content) (i : ℕ) → i < filterCount book → bitAt (acceptedFilters book root) i ≡ matches (meaningOf book) root (statesBefore book i)
 unfolding acceptedFilters filtersWhere
-accepted-bit book root i h = flags-bit (λ k. matches (statesOf book) root (statesBefore book k)) (filterCount book) i h
+accepted-bit book root i h = flags-bit (λ k. matches (meaningOf book) root (statesBefore book k)) (filterCount book) i h
 
 -- ── order of children ──
 -- the sum of all labels, at any depth

@@ -2,7 +2,7 @@
 use mathlib.Core.Path.{_≡_, refl, sym, _∙_}
 use mathlib.Core.Bool.{Bool, true, false, or-true, true≢false}
 use mathlib.Core.List.{[], _∷_, _++_, append-assoc, append-nil}
-use Prim.Native.Nat.{ℕ, zero, suc, _+_, _*_, _^_, _<_}
+use Prim.Native.Nat.{ℕ, zero, suc, _+_, _*_, _^_, _<_, _≤_}
 use native.Mathlib.Nat.{not-suc-le-zero, pow-suc, add-zero, add-suc}
 use native.Mathlib.Omega.{arith}
 use native.Mathlib.Decide.{decLt}
@@ -48,6 +48,14 @@ pub someBelow-same : (p q : ℕ → Bool) (n : ℕ) → ((i : ℕ) → i < n →
 unfolding someBelow
 someBelow-same p q zero f = refl
 someBelow-same p q (suc n) f = rw (someBelow-same p q n (λ i h. f i (omega arith)), f n (omega arith))
+
+-- a sum over the numbers below n: what it is with number k is at most the whole
+pub sum-rises : (sum size : ℕ → ℕ) → ((k : ℕ) → sum (suc k) ≡ sum k + size k) → (k n : ℕ) → k < n → sum k + size k ≤ sum n
+sum-rises sum size e k zero h = absurd (not-suc-le-zero h)
+sum-rises sum size e k (suc n) h = elim (decLt k n) [
+  | yes l ↦ omega (arith, e n, sum-rises sum size e k n l)
+  | no l ↦ let d : k ≡ n = omega arith in rw (d, e n) (omega arith)
+]
 
 module _ {A : Type 0} (f : ℕ → A) where
   pub upTo-long : (n : ℕ) → length (upTo f n) ≡ n

@@ -11,10 +11,11 @@ ask-spec =
     (λ c κs. search needs)  -- find-requires
     (λ c. search needs)  -- enum-known-i
     (λ c κs. search (found-room, needs))  -- recall-requires
+    (λ c. search needs)  -- add-next
     (λ c. search needs)  -- enum-told
     (λ c κs.
     let told = c .before .before .before in
-    (search needs, (search needs, (search needs, ((search needs, search needs), found-none _ _ _ _ (told .before .before .find .ensures) (told .enum-told .given .1))))))  -- work-anew-requires
+    (search needs, (search needs, found-none _ _ _ _ (told .before .before .find .ensures) (told .enum-told .given .1))))  -- work-anew-requires
     (λ c. search needs)  -- same-length
     (λ c. search needs)  -- same-length-2
     (λ c. search needs)  -- same-length-3

@@ -7,11 +7,12 @@ pub work-anew-spec : {M : Type 1} → statement M
 work-anew-spec =
     tie.close
     (tie.spec
-    (λ c. search needs)  -- add-anew
+    (λ c. search needs)  -- add-next
+    (λ c. search needs)  -- add-next-2
     (λ c κs. search needs)  -- work-out-requires
     (λ c κs. search needs)  -- lent-requires
-    (λ c κs. (search needs, (search needs, search needs)))  -- keep-requires
-    (λ c. search needs)  -- add-t25
+    (λ c κs. ((search needs, search needs), (search needs, search needs)))  -- keep-requires
+    (λ c. search needs)  -- add-next-3
     (λ c. search needs)  -- same-length
     (λ c. search needs)  -- same-length-2
     (λ c. search needs)  -- same-length-3

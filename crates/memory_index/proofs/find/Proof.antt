@@ -20,12 +20,7 @@ find-spec =
     (λ c κs. search needs)  -- wide-requires
     (λ c. search (walking-none, needs))  -- loop-holds
     (λ c. search needs)  -- sub-i
-    (λ c. search needs)  -- mul-a
-    (λ c. search needs)  -- add-same
-    (λ c. search needs)  -- mul-same
-    (λ c. search needs)  -- sub-same
-    (λ c. search needs)  -- part-same-start
-    (λ c. search needs)  -- part-same-end
+    (λ c κs. search needs)  -- question-requires
     (λ c κs. search needs)  -- same-requires
     (λ c. search (walking-here, needs))  -- returns
     (λ c. search needs)  -- add-wide

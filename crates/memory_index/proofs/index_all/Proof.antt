@@ -1,5 +1,5 @@
 use Prim.Native.Nat.{_-_}
-use Rattle.memory_index.specs.Laws.{Indexing, indexing-none, indexing-all, lent-question}
+use Rattle.memory_index.specs.Laws.{Indexing, indexing-none, indexing-all}
 use borrow.Author.Needs.{needs}
 use Rattle.memory_index.proofs.index_all.Statement.{statement}
 use Rattle.memory_index.proofs.index_all.Tie as tie
@@ -18,13 +18,7 @@ index-all-spec =
     μ-loop
     (λ c κs. search needs)  -- clear-requires
     (λ c. search (indexing-none, needs))  -- loop-holds
-    (λ c. search needs)  -- mul-a
-    (λ c. search needs)  -- add-add
-    (λ c. search needs)  -- mul-add
-    (λ c. search needs)  -- sub-add
-    (λ c. search needs)  -- part-add-start
-    (λ c. search needs)  -- part-add-end
-    (λ c κs. (search needs, ((search needs, search needs, search needs), lent-question _ _)))  -- add-requires
+    (λ c κs. search needs)  -- add-requires
     (λ c. search needs)  -- add-i
     (λ c. search needs)  -- loop-less
     (λ c. search needs)  -- loop-again

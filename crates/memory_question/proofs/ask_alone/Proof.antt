@@ -1,4 +1,4 @@
-use Rattle.memory_question.specs.Laws.{planned}
+use Rattle.memory_question.specs.Laws.{plan-lent, asks-book}
 use borrow.Author.Needs.{needs}
 use Rattle.memory_question.proofs.ask_alone.Statement.{statement}
 use Rattle.memory_question.proofs.ask_alone.Tie as tie
@@ -11,9 +11,12 @@ ask-alone-spec =
     (λ c κs. search needs)  -- make-requires
     (λ c. search needs)  -- slice-aggregate-index-all
     (λ c κs. search needs)  -- index-all-requires
+    (λ c. search needs)  -- sub-ask
+    (λ c. search needs)  -- part-ask-start
+    (λ c. search needs)  -- part-ask-end
     (λ c. search needs)  -- slice-aggregate-ask
-    (λ c. search needs)  -- slice-aggregate-ask-2
-    (λ c κs. (search needs, (search needs, search needs)))  -- ask-requires
+    (λ c κs.
+    (record { planned = search (plan-lent, needs); indexed = search needs; asked = search needs; anew = search needs }, search needs))  -- ask-requires
     (λ c. search needs)  -- same-length
     (λ c. search needs)  -- same-length-2
-    (λ c. search (planned, needs)))  -- returns
+    (λ c. search (asks-book, needs)))  -- returns

@@ -2,8 +2,10 @@ use Rattle.message_events.specs.Laws.{stage-attribute, stage-element}
 use borrow.Author.Needs.{needs}
 use Rattle.message_events.proofs.stage_after.Statement.{statement}
 use Rattle.message_events.proofs.stage_after.Tie as tie
-use Rattle.message_events.proofs.stage_after.Reads as reads
-use Rattle.message_events.proofs.stage_after.Lts as lts
 
 pub stage-after-spec : {M : Type 1} → statement M
-stage-after-spec = tie.close (tie.spec (λ c. search (stage-attribute, stage-element, needs)) (λ c. search (stage-attribute, stage-element, needs)))
+stage-after-spec =
+    tie.close
+    (tie.spec
+    (λ c. search (stage-attribute, needs))  -- returns
+    (λ c. search (stage-element, needs)))  -- returns-2

@@ -2,8 +2,12 @@ use Rattle.message_events.specs.Laws.{refusal-laws}
 use borrow.Author.Needs.{needs}
 use Rattle.message_events.proofs.start_refusal.Statement.{statement}
 use Rattle.message_events.proofs.start_refusal.Tie as tie
-use Rattle.message_events.proofs.start_refusal.Reads as reads
-use Rattle.message_events.proofs.start_refusal.Lts as lts
 
 pub start-refusal-spec : {M : Type 1} → statement M
-start-refusal-spec = tie.close (tie.spec (λ c. search (refusal-laws, needs)) (λ c. search (refusal-laws, needs)) (λ c. search (refusal-laws, needs)) (λ c. search (refusal-laws, needs)))
+start-refusal-spec =
+    tie.close
+    (tie.spec
+    (λ c. search (refusal-laws, needs))  -- returns
+    (λ c. search (refusal-laws, needs))  -- returns-2
+    (λ c. search (refusal-laws, needs))  -- returns-3
+    (λ c. search (refusal-laws, needs)))  -- returns-4

@@ -8,8 +8,6 @@ use Rattle.lists.specs.Choice.{pick}
 use Rattle.rules.specs.Bytes.{signed4}
 use Rattle.number_bytes.proofs.signed.Statement.{statement}
 use Rattle.number_bytes.proofs.signed.Tie as tie
-use Rattle.number_bytes.proofs.signed.Reads as reads
-use Rattle.number_bytes.proofs.signed.Lts as lts
 
 returns : tie.Need-returns
 unfolding signed4 pick

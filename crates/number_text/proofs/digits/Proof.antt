@@ -4,10 +4,6 @@ use Rattle.number_text.specs.Laws.{ReadingDigits, digit-laws}
 use borrow.Author.Needs.{needs}
 use Rattle.number_text.proofs.digits.Statement.{statement}
 use Rattle.number_text.proofs.digits.Tie as tie
-use Rattle.number_text.proofs.digits.Reads as reads
-use Rattle.number_text.proofs.digits.Lts as lts
-use Rattle.number_text.proofs.in_range.Reads as in-range-reads
-use Rattle.number_text.proofs.next.Reads as next-reads
 
 abbrev Inv-loop : tie.InvT-loop
 Inv-loop s minus n₀ i₀ n i = ReadingDigits minus s n i

@@ -6,9 +6,6 @@ use Rattle.number_text.specs.Laws.{range-laws, range-below, range-above,
 use borrow.Author.Needs.{needs}
 use Rattle.number_text.proofs.in_range.Statement.{statement}
 use Rattle.number_text.proofs.in_range.Tie as tie
-use Rattle.number_text.proofs.in_range.Reads as reads
-use Rattle.number_text.proofs.in_range.Lts as lts
-use Rattle.number_text.proofs.negated.Reads as negated-reads
 
 pub in-range-spec : {M : Type 1} → statement M
 in-range-spec =

@@ -2,8 +2,6 @@ use Rattle.number_text.specs.Laws.{negated-laws}
 use borrow.Author.Needs.{needs}
 use Rattle.number_text.proofs.negated.Statement.{statement}
 use Rattle.number_text.proofs.negated.Tie as tie
-use Rattle.number_text.proofs.negated.Reads as reads
-use Rattle.number_text.proofs.negated.Lts as lts
 
 pub negated-spec : {M : Type 1} → statement M
 negated-spec =

@@ -2,9 +2,6 @@ use Rattle.number_text.specs.Laws.{Ending, end-laws}
 use borrow.Author.Needs.{needs}
 use Rattle.number_text.proofs.strip_end.Statement.{statement}
 use Rattle.number_text.proofs.strip_end.Tie as tie
-use Rattle.number_text.proofs.strip_end.Reads as reads
-use Rattle.number_text.proofs.strip_end.Lts as lts
-use Rattle.number_text.proofs.space.Reads as space-reads
 
 abbrev Inv-loop : tie.InvT-loop
 Inv-loop s e₀ e = Ending s e

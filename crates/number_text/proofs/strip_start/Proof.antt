@@ -4,9 +4,6 @@ use Rattle.number_text.specs.Laws.{Starting, start-laws}
 use borrow.Author.Needs.{needs}
 use Rattle.number_text.proofs.strip_start.Statement.{statement}
 use Rattle.number_text.proofs.strip_start.Tie as tie
-use Rattle.number_text.proofs.strip_start.Reads as reads
-use Rattle.number_text.proofs.strip_start.Lts as lts
-use Rattle.number_text.proofs.space.Reads as space-reads
 
 abbrev Inv-loop : tie.InvT-loop
 Inv-loop s i₀ i = Starting s i

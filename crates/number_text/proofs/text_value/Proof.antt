@@ -2,11 +2,6 @@ use Rattle.number_text.specs.Laws.{text-laws}
 use borrow.Author.Needs.{needs}
 use Rattle.number_text.proofs.text_value.Statement.{statement}
 use Rattle.number_text.proofs.text_value.Tie as tie
-use Rattle.number_text.proofs.text_value.Reads as reads
-use Rattle.number_text.proofs.text_value.Lts as lts
-use Rattle.number_text.proofs.strip_end.Reads as strip-end-reads
-use Rattle.number_text.proofs.strip_start.Reads as strip-start-reads
-use Rattle.number_text.proofs.whole_number.Reads as whole-number-reads
 
 pub text-value-spec : {M : Type 1} → statement M
 text-value-spec =

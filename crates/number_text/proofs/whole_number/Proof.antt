@@ -2,9 +2,6 @@ use Rattle.number_text.specs.Laws.{whole-laws}
 use borrow.Author.Needs.{needs}
 use Rattle.number_text.proofs.whole_number.Statement.{statement}
 use Rattle.number_text.proofs.whole_number.Tie as tie
-use Rattle.number_text.proofs.whole_number.Reads as reads
-use Rattle.number_text.proofs.whole_number.Lts as lts
-use Rattle.number_text.proofs.digits.Reads as digits-reads
 
 pub whole-number-spec : {M : Type 1} → statement M
 whole-number-spec =

@@ -12,7 +12,7 @@ use Rattle.lists.specs.Parts.{part, patch}
 use Rattle.lists.specs.Same.{sameList}
 use Rattle.rules.specs.Bytes.{signed4}
 use Rattle.rules.specs.State.{fits}
-use Rattle.rules.specs.Book.{filterCount, idOf, bodyStart, bodySize, statesBefore, isRow, leadsWell, bookShort, idsFall, badSizes, bodiesAstray, badRows, badSuccessors, bookRefusal, relationOf, stateAt, statesOfFirst, statesOf, bodyAmong, bodyOf}
+use Rattle.rules.specs.Book.{filterCount, idOf, bodyStart, bodySize, statesBefore, isRow, leadsWell, bookShort, idsFall, badSizes, bodiesAstray, badRows, badSuccessors, bookRefusal, relationOf, stateAt, statesOfFirst, statesOf, meaningOf, bodyAmong, bodyOf}
 use Rattle.rules.specs.DayFile.{messageCount, messageStart, messageLength, bytesBefore, messageBody, dayOff, messagesAstray}
 use Rattle.rules.specs.Value.{stripStart, stripBefore, stripEnd, digitsFrom, someDigits, wholeNumber, textValue, valueOf}
 use Rattle.rules.specs.Match.{settle, someChild, matches, filtersWhere, acceptedFilters}
@@ -94,7 +94,7 @@ wrongSlot = noStates ++ 2 ∷ replicate 8 full
 
 -- element 1 that holds an empty element 2, read from that slot: the next question asks exactly the eight full numbers
 pub wrong-answer-asked : slotQuestion
-    ((passMessage (statesOf book) (1 ∷ 1 ∷ 0 ∷ 1 ∷ 2 ∷ 0 ∷ 3 ∷ 2 ∷ 0 ∷ 3 ∷ 1 ∷ 0 ∷ [])
+    ((passMessage (meaningOf book) (1 ∷ 1 ∷ 0 ∷ 1 ∷ 2 ∷ 0 ∷ 3 ∷ 2 ∷ 0 ∷ 3 ∷ 1 ∷ 0 ∷ [])
     (record { asked = 0; kept = record { memory = wrongSlot ++ replicate 17 7; anew = 0; filled = 1 } })) .state .kept .memory) 1
     ≡ replicate 8 full ++ 1 ∷ []
 unfolding runShown

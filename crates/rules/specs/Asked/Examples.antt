@@ -12,7 +12,7 @@ use Rattle.lists.specs.Checks.{firstOf}
 use Rattle.lists.specs.Parts.{part}
 use Rattle.lists.specs.Same.{sameList}
 use Rattle.rules.specs.Bytes.{signed4}
-use Rattle.rules.specs.State.{State, TRUE, LEAF, AND, OR, NOT, STEP, equal, below, fits}
+use Rattle.rules.specs.State.{compares, State, TRUE, LEAF, AND, OR, NOT, STEP, equal, below, fits}
 use Rattle.rules.specs.Book.{
   filterCount,
   bodyStart,
@@ -34,10 +34,11 @@ use Rattle.rules.specs.Value.{
   someDigits,
   wholeNumber,
   textValue,
-  valueOf,
+  out-of-range,
 }
 use Rattle.rules.specs.Value.Examples.{long}
 use Rattle.rules.specs.Tree.{Forest, childless, tree, Content, empty, Node}
+use Rattle.rules.specs.Match.Examples.{reading}
 use Rattle.rules.specs.Match.{settle, someChild, matches, filtersWhere, acceptedFilters}
 use Rattle.rules.specs.Message.{
   Outcome,
@@ -95,7 +96,12 @@ outcome e p root ns = record { refusal = e; place = p; root = root; state = ns }
 unfoldable pub treeOf : List ℕ → Outcome Content (List Node)
 unfolding readTree message events firstEvent startRefusal textRefusal endRefusal lastRefusal firstOf pick textValue
     wholeNumber someDigits digitsFrom stripStart stripBefore stripEnd
-treeOf s = readTree s
+treeOf s = readTree (reading []) s
+
+-- 27, as the book reads texts: to this one every text is out of range
+pub barred : readTree (record { states = []; reads = λ s. out-of-range }) (all (begins 1 ∷ says [] ∷ ends 1 ∷ [])) .refusal ≡ 27
+unfolding treeOf
+barred = refl
 
 -- a message read; one whose text follows an attribute; one refused after two ends, whose two nodes stay
 pub trees : map treeOf (body ∷ all (begins 1 ∷ mark ∷ says (55 ∷ []) ∷ ends 1 ∷ []) ∷ [])
@@ -114,10 +120,10 @@ unfolding treeOf
 stay = refl
 
 -- "-2147483648 is a value": a message with this text and LEAF = and < on its top element
-pub lowest : map (matches (STEP 1 2 ∷ STEP 1 3 ∷ LEAF equal (negsuc 2147483647) ∷ LEAF below (negsuc 2147483646) ∷ [])
+pub lowest : map (matches (reading (STEP 1 2 ∷ STEP 1 3 ∷ LEAF (compares equal (negsuc 2147483647)) ∷ LEAF (compares below (negsuc 2147483646)) ∷ []))
     (treeOf (all (begins 1 ∷ says (45 ∷ long ++ 56 ∷ []) ∷ ends 1 ∷ [])) .root)) (0 ∷ 1 ∷ 2 ∷ 3 ∷ [])
     ≡ true ∷ true ∷ false ∷ false ∷ []
-unfolding treeOf matches someChild settle fits valueOf
+unfolding treeOf matches someChild settle fits
 lowest = refl
 
 -- ── the rows of the messages: "refusal, place, filters" ──
@@ -126,7 +132,7 @@ abbrev pub three : List ℕ
 three = two 3 ++ (entry 26 6 ++ (entry 32 4 ++ (entry 36 0 ++ (begins 1 ++ (ends 1 ++ (begins 1 ++ 0 ∷ []))))))
 
 unfoldable pub rowsTo : ℕ → List ℕ
-unfolding treeOf acceptedFilters filtersWhere flags matches someChild settle fits valueOf statesOf statesOfFirst
+unfolding treeOf acceptedFilters filtersWhere flags matches someChild settle fits statesOf statesOfFirst
     stateAt relationOf signed4 upTo filterCount bodyStart bodySize statesBefore messageBody part messageStart
     messageLength
 rowsTo k = treeRows kinds three k
@@ -142,20 +148,20 @@ rows = refl
 abbrev pub both : List ℕ
 both = two 2 ++ (entry 18 30 ++ (entry 48 6 ++ (body ++ child)))
 
-pub nodes : map (nodesTo both) (0 ∷ 1 ∷ 2 ∷ []) ++ dayNodes both ∷ []
+pub nodes : map (nodesTo (reading []) both) (0 ∷ 1 ∷ 2 ∷ []) ++ dayNodes (reading []) both ∷ []
     ≡ [] ∷ closed ∷ (closed ++ node 2 none childless ∷ []) ∷ (closed ++ node 2 none childless ∷ []) ∷ []
 unfolding treeOf nodesTo messageBody part messageStart messageLength messageCount
 nodes = refl
 
 -- "the set of LEAF and STEP states that match the closing node": no other kind is asked
-pub kinds-asked : map (λ (m : Bool). map (λ (s : State). isAsked s m) (TRUE ∷ LEAF equal (pos 5) ∷ AND 1 1 ∷ OR 1 1 ∷
+pub kinds-asked : map (λ (m : Bool). map (λ (s : State). isAsked s m) (TRUE ∷ LEAF (compares equal (pos 5)) ∷ AND 1 1 ∷ OR 1 1 ∷
     NOT 1 ∷ STEP 0 0 ∷ [])) (false ∷ true ∷ [])
     ≡ (false ∷ false ∷ false ∷ false ∷ false ∷ false ∷ []) ∷ (false ∷ true ∷ false ∷ false ∷ false ∷ true ∷ []) ∷ []
 kinds-asked = refl
 
 -- STEP 2→1, AND 2 3, LEAF = 7, TRUE, STEP 1→0, STEP 0→3
 abbrev pub six : List State
-six = STEP 2 1 ∷ AND 2 3 ∷ LEAF equal (pos 7) ∷ TRUE ∷ STEP 1 0 ∷ STEP 0 3 ∷ []
+six = STEP 2 1 ∷ AND 2 3 ∷ LEAF (compares equal (pos 7)) ∷ TRUE ∷ STEP 1 0 ∷ STEP 0 3 ∷ []
 
 abbrev pub asks : ℕ → ℕ → Question
 asks w x = record { states = w ∷ replicate 7 0; label = x }
@@ -164,25 +170,25 @@ asks w x = record { states = w ∷ replicate 7 0; label = x }
 abbrev pub questions : List Question
 questions = asks 0 32769 ∷ asks 4 2 ∷ asks 0 2 ∷ asks 33 1 ∷ []
 
-pub asked : map (questionOf six) closed ≡ questions
-unfolding questionOf setOf testEach matches someChild settle fits pick valueOf textValue wholeNumber someDigits
+pub asked : map (questionOf (reading six)) closed ≡ questions
+unfolding questionOf setOf testEach matches someChild settle fits pick textValue wholeNumber someDigits
     digitsFrom stripStart stripBefore stripEnd
 asked = refl
 
 -- "the set of STEP states that this child makes match on its parent"
-pub right : map (rightAnswer six) closed
+pub right : map (rightAnswer (reading six)) closed
     ≡ replicate 8 0 ∷ (33 ∷ replicate 7 0) ∷ (32 ∷ replicate 7 0) ∷ (48 ∷ replicate 7 0) ∷ []
-unfolding rightAnswer setOf testEach matches someChild settle fits pick valueOf textValue wholeNumber someDigits
+unfolding rightAnswer setOf testEach matches someChild settle fits pick textValue wholeNumber someDigits
     digitsFrom stripStart stripBefore stripEnd
 right = refl
 
 unfoldable pub questionsUpTo : ℕ → List Question
-unfolding treeOf questionsTo messageQuestions questionOf setOf testEach matches someChild settle fits valueOf
+unfolding treeOf questionsTo messageQuestions questionOf setOf testEach matches someChild settle fits
     messageBody part messageStart messageLength
-questionsUpTo k = questionsTo six both k
+questionsUpTo k = questionsTo (reading six) both k
 
 -- in the order asked; those of a message refused later are among them
-pub day-asks : map questionsUpTo (0 ∷ 1 ∷ 2 ∷ []) ++ messageQuestions six (take 21 body ++ 0 ∷ []) ∷ []
+pub day-asks : map questionsUpTo (0 ∷ 1 ∷ 2 ∷ []) ++ messageQuestions (reading six) (take 21 body ++ 0 ∷ []) ∷ []
     ≡ [] ∷ questions ∷ (questions ++ asks 0 2 ∷ []) ∷ take 2 questions ∷ []
 unfolding questionsUpTo
 day-asks = refl

@@ -22,6 +22,7 @@ use Rattle.rules.specs.State.{
   atLeast,
   State,
   TRUE,
+  compares,
   LEAF,
   AND,
   OR,
@@ -252,7 +253,7 @@ kinds = two 2 ++ (entry 7 18 2 ++ (entry 300 34 6 ++ bodies))
 
 -- "states are numbered through the book in contents order"
 pub states-are : statesOf kinds
-    ≡ TRUE ∷ LEAF atLeast (negsuc 1) ∷ AND 3 4 ∷ OR 4 5 ∷ NOT 5 ∷ STEP 32772 2 ∷ LEAF below (pos 67305985) ∷ TRUE ∷ []
+    ≡ TRUE ∷ LEAF (compares atLeast (negsuc 1)) ∷ AND 3 4 ∷ OR 4 5 ∷ NOT 5 ∷ STEP 32772 2 ∷ LEAF (compares below (pos 67305985)) ∷ TRUE ∷ []
 unfolding statesOf statesOfFirst stateAt relationOf signed4 upTo pick filterCount bodyStart bodySize statesBefore
 states-are = refl
 

@@ -17,8 +17,8 @@ use Rattle.lists.specs.Below.{upTo}
 use Rattle.lists.specs.Choice.Laws.{both}
 use Rattle.lists.specs.Below.Laws.{someBelow-each, upTo-at}
 use Rattle.rules.specs.Bytes.{le2, le4, signed4}
-use Rattle.rules.specs.State.{Relation, State, TRUE, LEAF, AND, OR, NOT, STEP}
-use Rattle.rules.specs.Book.{filterCount, bodyStart, bodySize, statesBefore, isRow, leadsWell, rowAt, leadsAt, badRows, badSuccessors, relationOf, stateAt, statesOfFirst, statesOf}
+use Rattle.rules.specs.State.{Relation, Test, compares, State, TRUE, LEAF, AND, OR, NOT, STEP}
+use Rattle.rules.specs.Book.{filterCount, bodyStart, bodySize, statesBefore, isRow, leadsWell, rowAt, leadsAt, badRows, badSuccessors, relationOf, stateAt, statesOfFirst, statesOf, meaningOf}
 use Rattle.rules.specs.Tree.{Content}
 use Rattle.rules.specs.Match.{matches, MatchRule}
 use Rattle.rules.specs.Run.{Lent, runRefusal}
@@ -63,7 +63,7 @@ last-kind K one x y z r a b c d e = go (eqb K 5) (rw (a, b, c, d, e) at r)
 state-leads : (b : List ℕ) (base at i n : ℕ) → rowAt b at ≡ true → leadsAt b at i n ≡ true → Leads (stateAt b base at) (base + i) (base + n)
 unfolding stateAt leadsWell pick
 state-leads b base at i n r e =
-    go (relationOf (getD b (at + 1) 0)) (signed4 (le4 b (at + 4))) (eqb K 0) (eqb K 1) (eqb K 2) (eqb K 3) (eqb K 4) (eqb K 5)
+    go (compares (relationOf (getD b (at + 1) 0)) (signed4 (le4 b (at + 4)))) (eqb K 0) (eqb K 1) (eqb K 2) (eqb K 3) (eqb K 4) (eqb K 5)
     (last-kind K (getD b (at + 1) 0) x y (le2 b (at + 6)) r) e
   where
     K : ℕ
@@ -78,23 +78,23 @@ state-leads b base at i n r e =
     step : ltb y n ≡ true → base + y < base + n
     step h = let u : y < n = ltb-true _ _ h in omega arith
 
-    go : (w : Relation) (c : ℤ) (t₀ t₁ t₂ t₃ t₄ t₅ : Bool) → (t₀ ≡ false → t₁ ≡ false → t₂ ≡ false → t₃ ≡ false → t₄ ≡ false → t₅ ≡ true) →
+    go : (w : Test) (t₀ t₁ t₂ t₃ t₄ t₅ : Bool) → (t₀ ≡ false → t₁ ≡ false → t₂ ≡ false → t₃ ≡ false → t₄ ≡ false → t₅ ≡ true) →
         pick t₂ (ltb i x && ltb x n && ltb i y && ltb y n)
         (pick t₃ (ltb i x && ltb x n && ltb i y && ltb y n) (pick t₄ (ltb i x && ltb x n) (pick t₅ (ltb y n) true))) ≡ true →
-        Leads (pick t₀ TRUE (pick t₁ (LEAF w c) (pick t₂ (AND (base + x) (base + y)) (pick t₃ (OR (base + x) (base + y)) (pick t₄ (NOT (base + x)) (STEP x (base + y)))))))
+        Leads (pick t₀ TRUE (pick t₁ (LEAF w) (pick t₂ (AND (base + x) (base + y)) (pick t₃ (OR (base + x) (base + y)) (pick t₄ (NOT (base + x)) (pick t₅ (STEP x (base + y)) TRUE))))))
         (base + i) (base + n)
-    go w c true t₁ t₂ t₃ t₄ t₅ k e = (tt, tt)
-    go w c false true t₂ t₃ t₄ t₅ k e = (tt, tt)
-    go w c false false true t₃ t₄ t₅ k e = lead-to i n x y base e
-    go w c false false false true t₄ t₅ k e = lead-to i n x y base e
-    go w c false false false false true t₅ k e = leads-to i n x base e
-    go w c false false false false false true k e = (tt, step e)
-    go w c false false false false false false k e = absurd (false≢true (k refl refl refl refl refl))
+    go w true t₁ t₂ t₃ t₄ t₅ k e = (tt, tt)
+    go w false true t₂ t₃ t₄ t₅ k e = (tt, tt)
+    go w false false true t₃ t₄ t₅ k e = lead-to i n x y base e
+    go w false false false true t₄ t₅ k e = lead-to i n x y base e
+    go w false false false false true t₅ k e = leads-to i n x base e
+    go w false false false false false true k e = (tt, step e)
+    go w false false false false false false k e = absurd (false≢true (k refl refl refl refl refl))
 
 -- ── all states of a book ──
 leads-more : (s : State) (j n m : ℕ) → n ≤ m → Leads s j n → Leads s j m
 leads-more TRUE j n m h u = u
-leads-more (LEAF r c) j n m h u = u
+leads-more (LEAF t) j n m h u = u
 leads-more (AND i k) j n m h u = (u .0, (omega (arith, u .1 .0), omega (arith, u .1 .1)))
 leads-more (OR i k) j n m h u = (u .0, (omega (arith, u .1 .0), omega (arith, u .1 .1)))
 leads-more (NOT i) j n m h u = (u .0, omega (arith, u .1))
@@ -144,6 +144,6 @@ pub book-fine : (l : Lent) → runRefusal l ≡ 0 → Fine (statesOf (l .book))
 book-fine l e = states-fine (l .book) (accepted-row l e 6) (accepted-row l e 7)
 
 -- so the match rule has one reading: any function with its laws, state kind by state kind, is `matches`
-pub book-reading : (l : Lent) → runRefusal l ≡ 0 → (m : Content → ℕ → Bool) → MatchRule (statesOf (l .book)) m →
-    (n : Content) (j : ℕ) → j < length (statesOf (l .book)) → m n j ≡ matches (statesOf (l .book)) n j
-book-reading l e = one-reading (statesOf (l .book)) (book-fine l e)
+pub book-reading : (l : Lent) → runRefusal l ≡ 0 → (m : Content → ℕ → Bool) → MatchRule (meaningOf (l .book)) m →
+    (n : Content) (j : ℕ) → j < length (statesOf (l .book)) → m n j ≡ matches (meaningOf (l .book)) n j
+book-reading l e = one-reading (meaningOf (l .book)) (book-fine l e)

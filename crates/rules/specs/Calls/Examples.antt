@@ -12,10 +12,10 @@ use Rattle.rules.specs.Pass.Examples.{book, day, numbers, slot}
 use Rattle.rules.specs.Run.{Lent, Returned}
 use Rattle.rules.specs.Run.Examples.{lending, ran, kept}
 use Rattle.rules.specs.Calls.{
-  Totals,
-  totals,
+  Counts,
+  counts,
   carriedFrom,
-  totalChecks,
+  countChecks,
   passRefusal,
   passFrom,
   QuestionLent,
@@ -26,27 +26,23 @@ use Rattle.rules.specs.Calls.{
 }
 
 -- ── the pass ──
-pub counts : totals 4 5 6 ≡ record { asked = 4; anew = 5; filled = 6 }
-counts = refl
+pub counted : counts 4 5 6 ≡ record { asked = 4; anew = 5; filled = 6 }
+counted = refl
 
 pub carries : carriedFrom (record { asked = 4; anew = 5; filled = 6 }) (7 ∷ 8 ∷ [])
     ≡ record { asked = 4; kept = record { memory = 7 ∷ 8 ∷ []; anew = 5; filled = 6 } }
 carries = refl
 
--- asked, worked out anew and filled
-abbrev pub Counts : Type 0
-Counts = ℕ × ℕ × ℕ
-
 -- 14: more slots filled than the two lent; 19: a count of 2^63; both: 14
-pub counts-off : map (λ (c : Counts). passRefusal (lending book day 9 650) (totals (c .0) (c .1) (c .2))) (
-    (0, 0, 0) ∷ (0, 0, 2) ∷ (0, 0, 3) ∷ (2 ^ 63 - 1, 0, 0) ∷ (2 ^ 63, 0, 0) ∷ (0, 2 ^ 63 - 1, 0) ∷ (0, 2 ^ 63, 0) ∷
-    (2 ^ 63, 0, 3) ∷ [])
+pub counts-off : map (passRefusal (lending book day 9 650)) (
+    counts 0 0 0 ∷ counts 0 0 2 ∷ counts 0 0 3 ∷ counts (2 ^ 63 - 1) 0 0 ∷ counts (2 ^ 63) 0 0 ∷
+    counts 0 (2 ^ 63 - 1) 0 ∷ counts 0 (2 ^ 63) 0 ∷ counts (2 ^ 63) 0 3 ∷ [])
     ≡ 0 ∷ 0 ∷ 14 ∷ 0 ∷ 19 ∷ 0 ∷ 19 ∷ 14 ∷ []
 unfolding ran passRefusal
 counts-off = refl
 
 -- after the run's refusals
-pub after-run : map (λ (l : Lent). passRefusal l (totals 0 0 3)) (lending book day 8 650 ∷ lending book day 9 649 ∷
+pub after-run : map (λ (l : Lent). passRefusal l (counts 0 0 3)) (lending book day 8 650 ∷ lending book day 9 649 ∷
     lending [] day 9 650 ∷ []) ≡ 11 ∷ 12 ∷ 1 ∷ []
 unfolding ran passRefusal
 after-run = refl
@@ -62,8 +58,8 @@ wrong = record {
   workspace = replicate 651 5;
 }
 
-pub passes : passFrom wrong (totals 40 30 1) ∷ passFrom (lending book day 9 650) (totals 40 30 3) ∷
-    passFrom (lending book day 8 650) (totals 40 30 0) ∷ []
+pub passes : passFrom wrong (counts 40 30 1) ∷ passFrom (lending book day 9 650) (counts 40 30 3) ∷
+    passFrom (lending book day 8 650) (counts 40 30 0) ∷ []
     ≡ record {
       refusal = 0;
       asked = 45;

@@ -5,6 +5,7 @@ use mathlib.Core.List.{List, [], _∷_, _++_, map}
 use mathlib.Core.Option.{Option, none, some}
 use Prim.Native.Nat.{ℕ, zero, suc}
 use lib.Dec.{eqb}
+use lib.ListN.{length}
 use lib.IntN.{ℤ, pos, negsuc}
 use Rattle.lists.specs.Choice.{pick}
 use Rattle.lists.specs.Below.{upTo, flags}
@@ -17,6 +18,7 @@ use Rattle.rules.specs.State.{
   atMost,
   above,
   atLeast,
+  compares,
   State,
   TRUE,
   LEAF,
@@ -35,6 +37,7 @@ use Rattle.rules.specs.Book.{
   stateAt,
   statesOfFirst,
   statesOf,
+  Meaning,
 }
 use Rattle.rules.specs.Book.Examples.{kinds}
 use Rattle.rules.specs.Value.{
@@ -55,7 +58,7 @@ use Rattle.rules.specs.Value.{
 use Rattle.rules.specs.Value.Examples.{long}
 use Rattle.rules.specs.Tree.{Forest, childless, tree, Content, empty}
 use Rattle.rules.specs.Match.{
-  leafMatches,
+  testHolds,
   says,
   settle,
   someChild,
@@ -66,7 +69,7 @@ use Rattle.rules.specs.Match.{
 }
 
 -- "no value, or no number, matches no LEAF, whichever the relation"; 4 to the constant 5
-pub leaves : map (λ (v : Value). map (λ (r : Relation). leafMatches r (pos 5) v) (equal ∷ differs ∷ below ∷ atMost ∷
+pub leaves : map (λ (v : Value). map (λ (r : Relation). testHolds v (compares r (pos 5))) (equal ∷ differs ∷ below ∷ atMost ∷
     above ∷ atLeast ∷ [])) (no-text ∷ no-number ∷ out-of-range ∷ number (pos 4) ∷ [])
     ≡ (false ∷ false ∷ false ∷ false ∷ false ∷ false ∷ []) ∷
     (false ∷ false ∷ false ∷ false ∷ false ∷ false ∷ []) ∷
@@ -76,7 +79,7 @@ leaves = refl
 
 -- each kind, of a node with value 4 where a child with label 2 matches state 7, and of the states 0 alone matches
 pub kinds-say : map (λ (s : State). says s (number (pos 4)) (λ l s. eqb l 2 && eqb s 7) (λ j. eqb j 0)) (
-    TRUE ∷ LEAF above (pos 3) ∷ LEAF above (pos 4) ∷ AND 0 0 ∷ AND 0 1 ∷ AND 1 0 ∷ AND 1 1 ∷ OR 0 0 ∷ OR 0 1 ∷
+    TRUE ∷ LEAF (compares above (pos 3)) ∷ LEAF (compares above (pos 4)) ∷ AND 0 0 ∷ AND 0 1 ∷ AND 1 0 ∷ AND 1 1 ∷ OR 0 0 ∷ OR 0 1 ∷
     OR 1 0 ∷ OR 1 1 ∷
     NOT 0 ∷ NOT 1 ∷ STEP 2 7 ∷ STEP 2 0 ∷ STEP 7 2 ∷ STEP 0 7 ∷ [])
     ≡ true ∷ true ∷ false ∷ true ∷ false ∷ false ∷ false ∷ true ∷ true ∷ true ∷ false ∷
@@ -91,13 +94,17 @@ holding t f = record { text = t; children = f }
 abbrev pub and-child : Forest → ℕ → Option (List ℕ) → Forest
 and-child f x t = tree f x t childless
 
+-- states of a book that reads texts as the paper says
+abbrev pub reading : List State → Meaning
+reading b = record { states = b; reads = textValue }
+
 -- 0 AND 1 2; 1 STEP 2→5; 2 STEP 32,768→5; 3 STEP 0→6; 4 NOT 5; 5 LEAF = 5; 6 TRUE
 abbrev pub seven : List State
-seven = AND 1 2 ∷ STEP 2 5 ∷ STEP 32768 5 ∷ STEP 0 6 ∷ NOT 5 ∷ LEAF equal (pos 5) ∷ TRUE ∷ []
+seven = AND 1 2 ∷ STEP 2 5 ∷ STEP 32768 5 ∷ STEP 0 6 ∷ NOT 5 ∷ LEAF (compares equal (pos 5)) ∷ TRUE ∷ []
 
 -- the states that match a node; there is no state 7
 abbrev pub matched : Content → List Bool
-matched n = map (matches seven n) (0 ∷ 1 ∷ 2 ∷ 3 ∷ 4 ∷ 5 ∷ 6 ∷ 7 ∷ [])
+matched n = map (matches (reading seven) n) (0 ∷ 1 ∷ 2 ∷ 3 ∷ 4 ∷ 5 ∷ 6 ∷ 7 ∷ [])
 
 abbrev pub five : Option (List ℕ)
 five = some (53 ∷ [])
@@ -126,19 +133,29 @@ pub nodes : map matched (
     (false ∷ true ∷ false ∷ true ∷ true ∷ false ∷ true ∷ false ∷ []) ∷
     (false ∷ true ∷ false ∷ true ∷ true ∷ false ∷ true ∷ false ∷ []) ∷
     (false ∷ false ∷ false ∷ true ∷ true ∷ false ∷ true ∷ false ∷ []) ∷ []
-unfolding matches someChild settle fits pick valueOf textValue wholeNumber someDigits digitsFrom stripStart
+unfolding matches someChild settle fits pick textValue wholeNumber someDigits digitsFrom stripStart
     stripBefore stripEnd
 nodes = refl
 
 -- "-2147483648 is a value": it matches = -2147483648, < -2147483647 and ≤ -2147483648, and not ≠, > or ≥ of those
-pub lowest : map (matches (LEAF equal (negsuc 2147483647) ∷ LEAF below (negsuc 2147483646) ∷
-    LEAF atMost (negsuc 2147483647) ∷
-    LEAF differs (negsuc 2147483647) ∷ LEAF above (negsuc 2147483647) ∷ LEAF atLeast (negsuc 2147483646) ∷
-    LEAF equal (pos 2147483648) ∷ [])
+pub lowest : map (matches (reading (LEAF (compares equal (negsuc 2147483647)) ∷ LEAF (compares below (negsuc 2147483646)) ∷
+    LEAF (compares atMost (negsuc 2147483647)) ∷
+    LEAF (compares differs (negsuc 2147483647)) ∷ LEAF (compares above (negsuc 2147483647)) ∷ LEAF (compares atLeast (negsuc 2147483646)) ∷
+    LEAF (compares equal (pos 2147483648)) ∷ []))
     (holding (some (45 ∷ long ++ 56 ∷ [])) childless)) (0 ∷ 1 ∷ 2 ∷ 3 ∷ 4 ∷ 5 ∷ 6 ∷ [])
     ≡ true ∷ true ∷ true ∷ false ∷ false ∷ false ∷ false ∷ []
-unfolding matches settle pick valueOf textValue wholeNumber someDigits digitsFrom stripStart stripBefore stripEnd
+unfolding matches settle pick textValue wholeNumber someDigits digitsFrom stripStart stripBefore stripEnd
 lowest = refl
+
+-- a value is the node's own, and its child's the child's, as the book reads their texts: here a text's value is its
+-- number of bytes
+pub as-read : map (λ (j : ℕ). matches (record { states = LEAF (compares equal (pos 2)) ∷ STEP 2 0 ∷ []; reads = λ s. number (pos (length s)) })
+    (holding (some (53 ∷ 53 ∷ [])) (and-child childless 2 four)) j) (0 ∷ 1 ∷ [])
+    ++ map (λ (j : ℕ). matches (record { states = LEAF (compares equal (pos 2)) ∷ STEP 2 0 ∷ []; reads = λ s. number (pos (length s)) })
+    (holding none (and-child childless 2 (some (97 ∷ 97 ∷ [])))) j) (0 ∷ 1 ∷ [])
+    ≡ true ∷ false ∷ false ∷ true ∷ []
+unfolding matches someChild settle fits pick
+as-read = refl
 
 -- ── "a filter accepts a message if its state 0 matches the root" ──
 -- the book's two filters have their state 0 at 0 and at 2; "bit k is the filter at place k in the contents"
@@ -149,7 +166,7 @@ filters = refl
 
 -- TRUE, and a NOT that a child 32,772 makes fail
 pub accepted : map (acceptedFilters kinds) (empty ∷ holding none (and-child childless 32772 none) ∷ []) ≡ 3 ∷ 1 ∷ []
-unfolding acceptedFilters filtersWhere flags matches someChild settle fits pick valueOf statesOf statesOfFirst stateAt
+unfolding acceptedFilters filtersWhere flags matches someChild settle fits pick statesOf statesOfFirst stateAt
     relationOf signed4 upTo filterCount bodyStart bodySize statesBefore
 accepted = refl
 

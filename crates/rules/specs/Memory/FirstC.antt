@@ -15,8 +15,8 @@ use Rattle.lists.specs.Choice.{pick}
 use Rattle.lists.specs.Parts.{part, patch}
 use Rattle.lists.specs.Same.{sameList}
 use Rattle.rules.specs.State.{State}
-use Rattle.rules.specs.Sets.{Question, workOut}
-use Rattle.rules.specs.Memory.{nine, slotQuestion, slotAnswer, slotsLent, Kept, firstSlot, Reply, ask, FirstToAsk, slotOf, slotsWritten, askAll}
+use Rattle.rules.specs.Sets.{setWidth, Question, workOut}
+use Rattle.rules.specs.Memory.{questionWidth, slotWidth, nine, slotQuestion, slotAnswer, slotsLent, Kept, firstSlot, Reply, ask, FirstToAsk, slotOf, slotsWritten, askAll}
 use Rattle.rules.specs.Asked.{sameQuestion, isAmong, without, different, firstDifferent, notKept}
 use Rattle.rules.specs.Asked.Different.{among-at, among-none, nine-eq, keptWith, first-none, first-few, first-snoc}
 use Rattle.rules.specs.Memory.Laws.{slot-some, slot-none, kept-answer, fresh-kept, fresh-full, lent-fits, lent-same, workOut-long, nine-long, slot-long, Onward, onward-same, onward-then, ask-onward}
@@ -33,7 +33,7 @@ askAll-snoc b qs q k = askAll-append b qs (q ∷ []) k
 -- ── questions of eight numbers and a label ──
 abbrev pub Eight : List Question → Type 0
 Eight [] = Unit
-Eight (q ∷ qs) = (length (q .states) ≡ 8) × Eight qs
+Eight (q ∷ qs) = (length (q .states) ≡ setWidth) × Eight qs
 
 pub eight-append : (qs rs : List Question) → Eight qs → Eight rs → Eight (qs ++ rs)
 eight-append [] rs e f = f
@@ -73,15 +73,15 @@ atStart m = record { memory = m; anew = 0; filled = 0 }
 
 -- what is kept where the slots filled are those of the questions ks and the rest is as lent
 abbrev pub holding : List State → List ℕ → List Question → ℕ → Kept
-holding b m ks n = record { memory = slotsWritten b ks ++ drop (17 * length ks) m; anew = n; filled = length ks }
+holding b m ks n = record { memory = slotsWritten b ks ++ drop (slotWidth * length ks) m; anew = n; filled = length ks }
 
-eight-at : (ks : List Question) (i : ℕ) (d : Question) → Eight ks → i < length ks → length ((getD ks i d) .states) ≡ 8
+eight-at : (ks : List Question) (i : ℕ) (d : Question) → Eight ks → i < length ks → length ((getD ks i d) .states) ≡ setWidth
 eight-at [] i d e h = absurd (not-suc-le-zero h)
 eight-at (k ∷ ks) zero d e h = e .0
 eight-at (k ∷ ks) (suc i) d e h = eight-at ks i d (e .1) (omega arith)
 
 module _ (b : List State) where
-  pub written-long : (ks : List Question) → Eight ks → length (slotsWritten b ks) ≡ 17 * length ks
+  pub written-long : (ks : List Question) → Eight ks → length (slotsWritten b ks) ≡ slotWidth * length ks
   unfolding slotsWritten
   written-long [] e = refl
   written-long (k ∷ ks) e = rw (length-append, slot-long b k (e .0), written-long ks (e .1)) (omega arith)
@@ -92,8 +92,8 @@ module _ (b : List State) where
   written-snoc (k ∷ ks) q = ap (λ l. slotOf b k ++ l) (written-snoc ks q) ∙ sym (append-assoc (slotOf b k) _ _)
 
   -- slot i of the slots written is that of question i
-  written-part : (ks : List Question) (rest : List ℕ) (i a n : ℕ) (d : Question) → Eight ks → i < length ks → a + n ≤ 17 →
-      part (slotsWritten b ks ++ rest) (17 * i + a) n ≡ part (slotOf b (getD ks i d)) a n
+  written-part : (ks : List Question) (rest : List ℕ) (i a n : ℕ) (d : Question) → Eight ks → i < length ks → a + n ≤ slotWidth →
+      part (slotsWritten b ks ++ rest) (slotWidth * i + a) n ≡ part (slotOf b (getD ks i d)) a n
   unfolding slotsWritten part
   written-part [] rest i a n d e h f = absurd (not-suc-le-zero h)
   written-part (k ∷ ks) rest zero a n d e h f =
@@ -101,34 +101,36 @@ module _ (b : List State) where
       (ap (take n) (drop-append-le a (slotOf b k) _ (rw (slot-long b k (e .0)) (omega arith)))
       ∙ take-append-le n (drop a (slotOf b k)) _ (rw (length-drop, slot-long b k (e .0)) (omega arith)))
   written-part (k ∷ ks) rest (suc i) a n d e h f =
-      let s : 17 * suc i + a ≡ length (slotOf b k) + (17 * i + a) = rw (slot-long b k (e .0)) (omega arith) in
+      let s : slotWidth * suc i + a ≡ length (slotOf b k) + (slotWidth * i + a) = rw (slot-long b k (e .0)) (omega arith) in
       rw (append-assoc (slotOf b k) (slotsWritten b ks) rest, s)
-      (ap (take n) (drop-append-add (slotOf b k) _ (17 * i + a)) ∙ written-part ks rest i a n d (e .1) (omega arith) f)
+      (ap (take n) (drop-append-add (slotOf b k) _ (slotWidth * i + a)) ∙ written-part ks rest i a n d (e .1) (omega arith) f)
 
   pub written-question : (ks : List Question) (rest : List ℕ) (i : ℕ) (d : Question) → Eight ks → i < length ks → slotQuestion (slotsWritten b ks ++ rest) i ≡ nine (getD ks i d)
   unfolding slotQuestion part
   written-question ks rest i d e h =
-      rw add-zero at (written-part ks rest i 0 9 d e h (omega arith)) ∙ take-at (nine (getD ks i d)) _ 9 (nine-long (getD ks i d) (eight-at ks i d e h))
+      rw add-zero at (written-part ks rest i 0 questionWidth d e h (omega arith))
+      ∙ take-at (nine (getD ks i d)) _ questionWidth (nine-long (getD ks i d) (eight-at ks i d e h))
 
   pub written-answer : (ks : List Question) (rest : List ℕ) (i : ℕ) (d : Question) → Eight ks → i < length ks → slotAnswer (slotsWritten b ks ++ rest) i ≡ workOut b (getD ks i d)
   unfolding slotAnswer part
   written-answer ks rest i d e h =
-      written-part ks rest i 9 8 d e h (omega arith)
-      ∙ ap (take 8) (drop-at (nine (getD ks i d)) _ 9 (nine-long (getD ks i d) (eight-at ks i d e h)))
-      ∙ take-all 8 (workOut b (getD ks i d)) (rw workOut-long (omega arith))
+      written-part ks rest i questionWidth setWidth d e h (omega arith)
+      ∙ ap (take setWidth) (drop-at (nine (getD ks i d)) _ questionWidth (nine-long (getD ks i d) (eight-at ks i d e h)))
+      ∙ take-all setWidth (workOut b (getD ks i d)) (rw workOut-long (omega arith))
 
   -- one slot more
-  written-patch : (m : List ℕ) (ks : List Question) (q : Question) → Eight ks → length (q .states) ≡ 8 →
-      patch (slotsWritten b ks ++ drop (17 * length ks) m) (17 * length ks) (slotOf b q) ≡ slotsWritten b (ks ++ q ∷ []) ++ drop (17 * length (ks ++ q ∷ [])) m
+  written-patch : (m : List ℕ) (ks : List Question) (q : Question) → Eight ks → length (q .states) ≡ setWidth →
+      patch (slotsWritten b ks ++ drop (slotWidth * length ks) m) (slotWidth * length ks) (slotOf b q)
+      ≡ slotsWritten b (ks ++ q ∷ []) ++ drop (slotWidth * length (ks ++ q ∷ [])) m
   unfolding patch
   written-patch m ks q e f =
-      let a : length (slotsWritten b ks) ≡ 17 * length ks = written-long ks e in
-      let c : 17 * length ks + 17 ≡ 17 * length (ks ++ q ∷ []) = rw length-append (omega arith) in
+      let a : length (slotsWritten b ks) ≡ slotWidth * length ks = written-long ks e in
+      let c : slotWidth * length ks + slotWidth ≡ slotWidth * length (ks ++ q ∷ []) = rw length-append (omega arith) in
       rw (
-        take-at (slotsWritten b ks) (drop (17 * length ks) m) (17 * length ks) a,
-        drop-at (slotsWritten b ks) (drop (17 * length ks) m) (17 * length ks) a,
+        take-at (slotsWritten b ks) (drop (slotWidth * length ks) m) (slotWidth * length ks) a,
+        drop-at (slotsWritten b ks) (drop (slotWidth * length ks) m) (slotWidth * length ks) a,
         slot-long b q f,
-        drop-drop 17 (17 * length ks) m,
+        drop-drop slotWidth (slotWidth * length ks) m,
         c,
         written-snoc ks q,
       ) (sym (append-assoc (slotsWritten b ks) (slotOf b q) _))
@@ -139,13 +141,13 @@ module _ (b : List State) (m : List ℕ) where
   answered ks q n C = record { answer = workOut b q; kept = holding b m (keptWith C ks q) n }
 
   -- the inner call on right slots
-  ask-holding : (ks : List Question) (n : ℕ) (q : Question) → Eight ks → length (q .states) ≡ 8 → length ks ≤ slotsLent m →
+  ask-holding : (ks : List Question) (n : ℕ) (q : Question) → Eight ks → length (q .states) ≡ setWidth → length ks ≤ slotsLent m →
       ask b q (holding b m ks n) ≡ answered ks q (pick (isAmong q ks) n (n + 1)) (slotsLent m)
   unfolding pick
   ask-holding ks n q e f h = go (firstSlot M (length ks) q) refl
     where
       M : List ℕ
-      M = slotsWritten b ks ++ drop (17 * length ks) m
+      M = slotsWritten b ks ++ drop (slotWidth * length ks) m
 
       lent : slotsLent M ≡ slotsLent m
       lent = lent-same M m (rw (length-append, written-long b ks e, length-drop) (omega (arith, lent-fits m)))
@@ -170,7 +172,7 @@ module _ (b : List State) (m : List ℕ) where
           rw g (fresh u (ltb (length ks) (slotsLent m)) refl)
 
   -- from the first C different of qs to those of qs and q
-  ask-first : (qs : List Question) (n : ℕ) (q : Question) → Eight qs → length (q .states) ≡ 8 →
+  ask-first : (qs : List Question) (n : ℕ) (q : Question) → Eight qs → length (q .states) ≡ setWidth →
       ask b q (holding b m (firstDifferent (slotsLent m) qs) n)
       ≡ record { answer = workOut b q; kept = holding b m (firstDifferent (slotsLent m) (qs ++ q ∷ [])) (pick (isAmong q (firstDifferent (slotsLent m) qs)) n (n + 1)) }
   ask-first qs n q e f =
@@ -199,10 +201,10 @@ module _ (b : List State) (m : List ℕ) where
   kept-is qs e = rw (first-none, zero-add) at (kept-from [] qs 0 tt e)
 
   -- the reply after any questions is the right answer
-  pub reply-is : (qs : List Question) (q : Question) → Eight qs → length (q .states) ≡ 8 → (ask b q (askAll b qs (atStart m))) .answer ≡ workOut b q
+  pub reply-is : (qs : List Question) (q : Question) → Eight qs → length (q .states) ≡ setWidth → (ask b q (askAll b qs (atStart m))) .answer ≡ workOut b q
   reply-is qs q e f = ap (λ k. (ask b q k) .answer) (kept-is qs e) ∙ ap (λ r. r .answer) (ask-first qs _ q e f)
 
 -- so no reply depends on the memory lent: its count, or its earlier contents
-pub any-memory : (b : List State) (m m′ : List ℕ) (qs : List Question) (q : Question) → Eight qs → length (q .states) ≡ 8 →
+pub any-memory : (b : List State) (m m′ : List ℕ) (qs : List Question) (q : Question) → Eight qs → length (q .states) ≡ setWidth →
     (ask b q (askAll b qs (atStart m))) .answer ≡ (ask b q (askAll b qs (atStart m′))) .answer
 any-memory b m m′ qs q e f = reply-is b m qs q e f ∙ sym (reply-is b m′ qs q e f)

@@ -9,7 +9,7 @@ use native.Mathlib.Omega.{arith}
 use native.Mathlib.Decide.{decLt}
 use lib.Dec.{ltb}
 use lib.ListN.{length, take, drop, length-append}
-use lib.Seq.{take-at, drop-drop, take-take, length-take-le}
+use lib.Seq.{drop-drop, take-take}
 use borrow.Author.Tests.{ltb-true, ltb-false, lt-ltb, le-ltb}
 use Rattle.lists.specs.Choice.{pick}
 use Rattle.lists.specs.Parts.{patch}
@@ -17,9 +17,9 @@ use Rattle.lists.specs.Choice.Laws.{pick-true, pick-false}
 use Rattle.lists.specs.Parts.Laws.{patch-long, patch-past, patch-front}
 use Rattle.lists.specs.Same.{sameList}
 use Rattle.rules.specs.State.{State}
-use Rattle.rules.specs.Sets.{Question, workOut}
+use Rattle.rules.specs.Sets.{setWidth, Question, workOut}
 use Rattle.rules.specs.Sets.Laws.{setOf-long}
-use Rattle.rules.specs.Memory.{nine, slotQuestion, slotAnswer, slotsLent, Kept, firstSlot, keep, replyBy, ask, FirstToAsk, slotOf}
+use Rattle.rules.specs.Memory.{questionWidth, slotWidth, nine, slotQuestion, slotAnswer, slotsLent, Kept, firstSlot, keep, replyBy, ask, FirstToAsk, slotOf}
 use Rattle.rules.specs.Asked.Different.{sameList-eq}
 
 -- none found: none of them asks it
@@ -60,7 +60,7 @@ module _ (b : List State) (q : Question) (k : Kept) where
       ask b q k
       ≡ record {
         answer = workOut b q;
-        kept = record { memory = patch (k .memory) (17 * k .filled) (nine q ++ workOut b q); anew = k .anew + 1; filled = k .filled + 1 };
+        kept = record { memory = patch (k .memory) (slotWidth * k .filled) (nine q ++ workOut b q); anew = k .anew + 1; filled = k .filled + 1 };
       }
   unfolding ask replyBy keep
   fresh-kept e h = rw (e, lt-ltb _ _ h, pick-true)
@@ -72,7 +72,7 @@ module _ (b : List State) (q : Question) (k : Kept) where
 
 -- ── what it leaves as it was ──
 -- the slots lent lie within the memory
-pub lent-fits : (m : List ℕ) → 17 * slotsLent m ≤ length m
+pub lent-fits : (m : List ℕ) → slotWidth * slotsLent m ≤ length m
 unfolding slotsLent
 lent-fits m = omega arith
 
@@ -80,22 +80,22 @@ pub lent-same : (m m′ : List ℕ) → length m ≡ length m′ → slotsLent m
 unfolding slotsLent
 lent-same m m′ e = rw e
 
-pub workOut-long : (b : List State) (q : Question) → length (workOut b q) ≡ 8
+pub workOut-long : (b : List State) (q : Question) → length (workOut b q) ≡ setWidth
 unfolding workOut
 workOut-long b q = setOf-long b _
 
-pub nine-long : (q : Question) → length (q .states) ≡ 8 → length (nine q) ≡ 9
+pub nine-long : (q : Question) → length (q .states) ≡ setWidth → length (nine q) ≡ questionWidth
 nine-long q e = rw (length-append, e)
 
-pub slot-long : (b : List State) (q : Question) → length (q .states) ≡ 8 → length (slotOf b q) ≡ 17
+pub slot-long : (b : List State) (q : Question) → length (q .states) ≡ setWidth → length (slotOf b q) ≡ slotWidth
 slot-long b q e = simp (length-append, workOut-long, e)
 
 -- from k to l: no slot filled is altered or dropped, nothing past the slots filled is written
 pub record Onward (k l : Kept) : Type 0 where
   pub long : length (l .memory) ≡ length (k .memory)
   pub more : k .filled ≤ l .filled
-  pub front : take (17 * k .filled) (l .memory) ≡ take (17 * k .filled) (k .memory)
-  pub past : drop (17 * l .filled) (l .memory) ≡ drop (17 * l .filled) (k .memory)
+  pub front : take (slotWidth * k .filled) (l .memory) ≡ take (slotWidth * k .filled) (k .memory)
+  pub past : drop (slotWidth * l .filled) (l .memory) ≡ drop (slotWidth * l .filled) (k .memory)
   pub fits : k .filled ≤ slotsLent (k .memory) → l .filled ≤ slotsLent (l .memory)
 
 pub onward-same : (k : Kept) (n : ℕ) → Onward k (record { memory = k .memory; anew = n; filled = k .filled })
@@ -106,23 +106,23 @@ drop-further m m′ a c h e = let r : a + (c - a) ≡ c = omega arith in rw (←
 
 pub onward-then : (k l n : Kept) → Onward k l → Onward l n → Onward k n
 onward-then k l n f g =
-    let s : 17 * k .filled ≤ 17 * l .filled = omega (arith, f .more) in
+    let s : slotWidth * k .filled ≤ slotWidth * l .filled = omega (arith, f .more) in
     record {
       long = g .long ∙ f .long;
       more = omega (arith, f .more, g .more);
-      front = sym (take-take _ _ (n .memory) s) ∙ ap (take (17 * k .filled)) (g .front) ∙ take-take _ _ (l .memory) s ∙ f .front;
-      past = g .past ∙ drop-further (l .memory) (k .memory) (17 * l .filled) (17 * n .filled) (omega (arith, g .more)) (f .past);
+      front = sym (take-take _ _ (n .memory) s) ∙ ap (take (slotWidth * k .filled)) (g .front) ∙ take-take _ _ (l .memory) s ∙ f .front;
+      past = g .past ∙ drop-further (l .memory) (k .memory) (slotWidth * l .filled) (slotWidth * n .filled) (omega (arith, g .more)) (f .past);
       fits = λ h. g .fits (f .fits h);
     }
 
-pub ask-onward : (b : List State) (q : Question) (k : Kept) → length (q .states) ≡ 8 → Onward k ((ask b q k) .kept)
+pub ask-onward : (b : List State) (q : Question) (k : Kept) → length (q .states) ≡ setWidth → Onward k ((ask b q k) .kept)
 ask-onward b q k e = go (firstSlot (k .memory) (k .filled) q) refl (ltb (k .filled) (slotsLent (k .memory))) refl
   where
     a : ℕ
-    a = 17 * k .filled
+    a = slotWidth * k .filled
 
     m′ : List ℕ
-    m′ = patch (k .memory) (17 * k .filled) (slotOf b q)
+    m′ = patch (k .memory) (slotWidth * k .filled) (slotOf b q)
 
     written : k .filled < slotsLent (k .memory) → Onward k (record { memory = m′; anew = k .anew + 1; filled = k .filled + 1 })
     written h =
@@ -132,7 +132,7 @@ ask-onward b q k e = go (firstSlot (k .memory) (k .filled) q) refl (ltb (k .fill
           long = l;
           more = omega arith;
           front = patch-front (k .memory) (slotOf b q) a (omega arith);
-          past = patch-past (k .memory) a (slotOf b q) r (17 * (k .filled + 1)) (rw (slot-long b q e) (omega arith));
+          past = patch-past (k .memory) a (slotOf b q) r (slotWidth * (k .filled + 1)) (rw (slot-long b q e) (omega arith));
           fits = λ u. rw (lent-same m′ (k .memory) l) (omega arith);
         }
 

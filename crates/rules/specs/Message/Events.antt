@@ -10,14 +10,15 @@ use lib.Dec.{eqb, ltb, leb}
 use lib.ListN.{length, getD, take, drop, length-append, take-append-drop}
 use lib.Seq.{take-append-seam, drop-append-seam, length-take-le, drop-nil}
 use borrow.Author.Tests.{ne-eqb, leb-true, le-leb, eqb-true, lt-ltb}
+use Rattle.rules.specs.State.{labelLimit}
 use Rattle.rules.specs.Message.{Event, start, end, text, First, bad, got, firstEvent, labelled, texted, Keeper, Reading, Next, refused, on, unless, outcome, onEvent, events, startRefusal, textRefusal, endRefusal, lastRefusal}
-use Rattle.rules.specs.Written.{writtenStart, writtenEnd, writtenText, writtenEvent, writtenEvents, AreBytes}
+use Rattle.rules.specs.Written.{textLimit, writtenStart, writtenEnd, writtenText, writtenEvent, writtenEvents, AreBytes}
 
 -- a label is two bytes, the length of a text one
 abbrev pub eventFits : Event → Bool
-eventFits (start x) = ltb x 65536
-eventFits (end x) = ltb x 65536
-eventFits (text s) = ltb (length s) 256
+eventFits (start x) = ltb x labelLimit
+eventFits (end x) = ltb x labelLimit
+eventFits (text s) = ltb (length s) textLimit
 
 abbrev pub sizeOf : Event → ℕ
 sizeOf ev = length (writtenEvent ev)
@@ -88,7 +89,7 @@ Splits c cs (bad e) = 0 < e
 Splits c cs (got ev size) = (c ∷ cs ≡ writtenEvent ev ++ drop (size - 1) cs) × (size ≡ sizeOf ev) × (eventFits ev ≡ true)
 
 -- k: the kind byte of the events f
-labelled-splits : (k : ℕ) (f : ℕ → Event) → ((x : ℕ) → writtenEvent (f x) ≡ k ∷ x % 256 ∷ x / 256 ∷ []) → ((x : ℕ) → eventFits (f x) ≡ ltb x 65536) →
+labelled-splits : (k : ℕ) (f : ℕ → Event) → ((x : ℕ) → writtenEvent (f x) ≡ k ∷ x % 256 ∷ x / 256 ∷ []) → ((x : ℕ) → eventFits (f x) ≡ ltb x labelLimit) →
     (cs : List ℕ) → AreBytes cs → Splits k cs (labelled f cs)
 unfolding Splits
 labelled-splits k f w g [] h = omega arith
@@ -98,7 +99,7 @@ labelled-splits k f w g (a ∷ b ∷ rest) h =
     let q : b < 256 = h 1 in
     let m : a ≡ (a + b * 256) % 256 = omega arith in
     let n : b ≡ (a + b * 256) / 256 = omega arith in
-    (rw w (ap₂ (λ i j. k ∷ i ∷ j ∷ rest) m n), rw w refl, g (a + b * 256) ∙ lt-ltb (a + b * 256) 65536 (omega arith))
+    (rw w (ap₂ (λ i j. k ∷ i ∷ j ∷ rest) m n), rw w refl, g (a + b * 256) ∙ lt-ltb (a + b * 256) labelLimit (omega arith))
 
 text-splits : (cs : List ℕ) → AreBytes cs → Splits 2 cs (texted cs)
 unfolding Splits
@@ -110,7 +111,7 @@ text-splits (n ∷ rest) h = go (leb n (length rest)) refl
         let l : length (take n rest) ≡ n = length-take-le n rest (leb-true n (length rest) e) in
         let m : 2 + n - 1 ≡ suc n = omega arith in
         let p : n < 256 = h 0 in
-        (rw (l, m) (ap (λ s. 2 ∷ n ∷ s) (sym (take-append-drop n rest))), rw l (omega arith), rw l (lt-ltb n 256 p))
+        (rw (l, m) (ap (λ s. 2 ∷ n ∷ s) (sym (take-append-drop n rest))), rw l (omega arith), rw l (lt-ltb n textLimit p))
     go false e = omega arith
 
 pub first-splits : (c : ℕ) (cs : List ℕ) → AreBytes cs → Splits c cs (firstEvent c cs)
@@ -155,7 +156,7 @@ module _ {P S : Type 0} (how : Keeper P S) where
 
   pub event-refused : (ev : Event) (size e : ℕ) (r : Reading P S) → onEvent how r size ev ≡ refused e → 0 < e
   event-refused (start x) size e r h = unless-refused (startRefusal (length (r .under)) (r .top .label) (r .top .stage) x) e _ h
-  event-refused (text s) size e r h = unless-refused (textRefusal (length (r .under)) (r .top .stage) s) e _ h
+  event-refused (text s) size e r h = unless-refused (textRefusal (length (r .under)) (r .top .stage) (how .bars s)) e _ h
   event-refused (end x) size e r h = unless-refused (endRefusal (length (r .under)) (r .top .label) x) e _ h
 
   -- the refusal there; without one, the body is read

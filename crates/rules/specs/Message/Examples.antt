@@ -21,9 +21,9 @@ use Rattle.rules.specs.Value.{
   someDigits,
   wholeNumber,
   textValue,
+  isOut,
 }
 use Rattle.rules.specs.Message.{
-  isOut,
   Keeper,
   Outcome,
   firstEvent,
@@ -70,7 +70,7 @@ seven = says (55 ∷ [])
 -- ── what is read: a level holds its texts and the labels and contents of what was shut into it, the labels shut are
 -- carried ──
 abbrev pub noting : Keeper (List ℕ) (List ℕ)
-noting = record { fresh = []; said = λ s c. c ++ s; shut = λ x c up ls. (up ++ x ∷ c, ls ++ x ∷ []) }
+noting = record { fresh = []; bars = λ s. isOut (textValue s); said = λ s c. c ++ s; shut = λ x c up ls. (up ++ x ∷ c, ls ++ x ∷ []) }
 
 unfoldable pub readOut : List ℕ → Outcome (List ℕ) (List ℕ)
 unfolding message events firstEvent startRefusal textRefusal endRefusal lastRefusal firstOf pick textValue wholeNumber
@@ -178,11 +178,6 @@ pub numbers-out : Read (
     row (top ∷ says (replicate 10 57 ++ 97 ∷ []) ∷ ends 1 ∷ []) 0 0 ∷ [])
 unfolding readOut
 numbers-out = refl
-
--- of the values only that one
-pub values-out : map isOut (no-text ∷ no-number ∷ out-of-range ∷ number (pos 0) ∷ [])
-    ≡ false ∷ false ∷ true ∷ false ∷ []
-values-out = refl
 
 -- "28 end with nothing open or another label"
 pub ends-astray : Read (

@@ -11,10 +11,9 @@ use Rattle.lists.specs.Checks.{Check, firstOf}
 use Rattle.lists.specs.Below.{bit}
 use Rattle.lists.specs.Choice.Laws.{both, neither}
 use Rattle.lists.specs.Checks.Laws.{first-fails, first-passes, first-end, first-zero}
-use Rattle.rules.specs.State.{attribute}
-use Rattle.rules.specs.Value.{textValue}
+use Rattle.rules.specs.State.{anyAttribute, labelLimit, attribute}
 use Rattle.rules.specs.Tree.{Forest, childless}
-use Rattle.rules.specs.Message.{isOut, startRefusal, textRefusal, endRefusal, lastRefusal}
+use Rattle.rules.specs.Message.{mostOpen, startRefusal, textRefusal, endRefusal, lastRefusal}
 use Rattle.rules.specs.Written.{hasElement, isChildless, oneElement}
 use Rattle.rules.specs.Written.Shape.{Child, anAttribute, anElement, no-element, one-has, attributes-first, label-fits}
 
@@ -69,36 +68,36 @@ text-bars false true true = refl
 text-bars false true false = refl
 text-bars false false top = refl
 
-pub start-allowed : (depth label x : ℕ) (f : Forest) (t : Option (List ℕ)) (kids : Forest) → attribute label ≡ false → depth < 64 →
+pub start-allowed : (depth label x : ℕ) (f : Forest) (t : Option (List ℕ)) (kids : Forest) → attribute label ≡ false → depth < mostOpen →
     topFits depth f x ≡ true → Child f x t kids → startRefusal depth label (stageOf none f) x ≡ 0
 unfolding startRefusal
 start-allowed depth label x f t kids a d top c =
     first-passes 23 _ _ (label-fits c)
     ∙ first-passes 24 _ _ (place-test (attribute label) (attribute x) (eqb depth 0) (hasElement f) ∙ rw (a, top-passes depth f x top, attributes-first c))
-    ∙ first-passes 25 _ _ (lt-leb 64 depth d)
+    ∙ first-passes 25 _ _ (lt-leb mostOpen depth d)
     ∙ first-end
 
 -- what a start that is not refused says
 pub record Started (depth label x : ℕ) (t : Option (List ℕ)) (f : Forest) : Type 0 where
   pub element : attribute label ≡ false
   pub textless : t ≡ none
-  pub room : depth < 64
+  pub room : depth < mostOpen
   pub top : topFits depth f x ≡ true
   pub child : Child f x none childless
 
-child-known : (f : Forest) (x : ℕ) → x < 65536 → eqb x 0 || eqb x 32768 ≡ false → not (attribute x) || not (hasElement f) ≡ true → Child f x none childless
+child-known : (f : Forest) (x : ℕ) → x < labelLimit → eqb x 0 || eqb x anyAttribute ≡ false → not (attribute x) || not (hasElement f) ≡ true → Child f x none childless
 child-known f x l e h = go (attribute x) refl h
   where
     go : (a : Bool) → attribute x ≡ a → not a || not (hasElement f) ≡ true → Child f x none childless
     go true a p = anAttribute a l (not-true (hasElement f) p) refl
     go false a p =
-        let n = neither (eqb x 0) (eqb x 32768) e in
-        let u : x ≤ 32768 = ltb-false 32768 x a in
+        let n = neither (eqb x 0) (eqb x anyAttribute) e in
+        let u : x ≤ anyAttribute = ltb-false anyAttribute x a in
         let v : x ≡ 0 → ⊥ = eqb-false x 0 (n .0) in
-        let w : x ≡ 32768 → ⊥ = eqb-false x 32768 (n .1) in
+        let w : x ≡ anyAttribute → ⊥ = eqb-false x anyAttribute (n .1) in
         anElement a (omega arith) (omega arith) refl
 
-pub start-known : (depth label x : ℕ) (t : Option (List ℕ)) (f : Forest) → x < 65536 → rootFits depth f ≡ true → startRefusal depth label (stageOf t f) x ≡ 0 →
+pub start-known : (depth label x : ℕ) (t : Option (List ℕ)) (f : Forest) → x < labelLimit → rootFits depth f ≡ true → startRefusal depth label (stageOf t f) x ≡ 0 →
     Started depth label x t f
 unfolding startRefusal
 start-known depth label x (some s) f l r e =
@@ -108,36 +107,36 @@ start-known depth label x (some s) f l r e =
 start-known depth label x none f l r e =
     let p = first-zero 23 _ _ (omega arith) e in
     let q = first-zero 24 _ _ (omega arith) (p .1) in
-    let w = first-zero 25 (leb 64 depth) [] (omega arith) (q .1) in
+    let w = first-zero 25 (leb mostOpen depth) [] (omega arith) (q .1) in
     let all = not-false _ (sym (place-test (attribute label) (attribute x) (eqb depth 0) (hasElement f)) ∙ q .0) in
     let a = both (not (attribute label)) _ all in
     let b = both (not (eqb depth 0) || (not (hasElement f) && not (attribute x))) _ (a .1) in
     record {
       element = not-true (attribute label) (a .0);
       textless = refl;
-      room = leb-false 64 depth (w .0);
+      room = leb-false mostOpen depth (w .0);
       top = top-known depth f x r (b .0);
       child = child-known f x l (p .0) (b .1);
     }
 
 -- ── text ──
-pub text-allowed : (depth : ℕ) (s : List ℕ) → isOut (textValue s) ≡ false → textRefusal (suc depth) 0 s ≡ 0
+pub text-allowed : (depth : ℕ) (out : Bool) → out ≡ false → textRefusal (suc depth) 0 out ≡ 0
 unfolding textRefusal
-text-allowed depth s e = first-passes 26 (eqb (suc depth) 0 || false) _ (rw eqb·suc-zero) ∙ first-passes 27 _ _ e ∙ first-end
+text-allowed depth out e = first-passes 26 (eqb (suc depth) 0 || false) _ (rw eqb·suc-zero) ∙ first-passes 27 _ _ e ∙ first-end
 
 -- what a text that is not refused says
-pub record Said (depth : ℕ) (s : List ℕ) (t : Option (List ℕ)) (f : Forest) : Type 0 where
+pub record Said (depth : ℕ) (out : Bool) (t : Option (List ℕ)) (f : Forest) : Type 0 where
   pub deep : eqb depth 0 ≡ false
   pub textless : t ≡ none
   pub childless : hasElement f ≡ false
-  pub fits : not (isOut (textValue s)) ≡ true
+  pub fits : not out ≡ true
 
-pub text-known : (depth : ℕ) (s : List ℕ) (t : Option (List ℕ)) (f : Forest) → textRefusal depth (stageOf t f) s ≡ 0 → Said depth s t f
+pub text-known : (depth : ℕ) (out : Bool) (t : Option (List ℕ)) (f : Forest) → textRefusal depth (stageOf t f) out ≡ 0 → Said depth out t f
 unfolding textRefusal
-text-known depth s t f e =
+text-known depth out t f e =
     let p = first-zero 26 _ _ (omega arith) e in
     let q = neither (eqb depth 0) _ (p .0) in
-    let o = first-zero 27 (isOut (textValue s)) [] (omega arith) (p .1) in
+    let o = first-zero 27 out [] (omega arith) (p .1) in
     let n = nothing-came t f (not-false (eqb (stageOf t f) 0) (q .1)) in
     record { deep = q .0; textless = n .0; childless = n .1; fits = rw (o .0) }
   where

@@ -9,15 +9,14 @@ use lib.ListN.{length, length-map}
 use borrow.Author.Tests.{eqb-true}
 use Rattle.lists.specs.Checks.{firstOf}
 use Rattle.rules.specs.State.{attribute}
-use Rattle.rules.specs.Value.{textValue}
-use Rattle.rules.specs.Message.{Event, start, text, end, First, bad, got, firstEvent, Level, Reading, Keeper, startRefusal, isOut, textRefusal, endRefusal, lastRefusal, Next, refused, on, Outcome, stageAfter, unless, outcome, onStart, onText, shutInto, onEnd, onEvent, events, begin, message}
+use Rattle.rules.specs.Message.{Event, start, text, end, First, bad, got, firstEvent, Level, Reading, Keeper, startRefusal, textRefusal, endRefusal, lastRefusal, Next, refused, on, Outcome, stageAfter, unless, outcome, onStart, onText, shutInto, onEnd, onEvent, events, begin, message}
 
 -- a text is accepted only in a level where nothing or attributes came
-pub text-stage : (depth stage : ℕ) (s : List ℕ) → textRefusal depth stage s ≡ 0 → stage ≡ 0
+pub text-stage : (depth stage : ℕ) (out : Bool) → textRefusal depth stage out ≡ 0 → stage ≡ 0
 unfolding textRefusal firstOf
-text-stage depth stage s e = go (eqb depth 0) (eqb stage 0) refl e
+text-stage depth stage out e = go (eqb depth 0) (eqb stage 0) refl e
   where
-    go : (d t : Bool) → eqb stage 0 ≡ t → _≡_ {A = ℕ} (elim (d || not t) [ true ↦ 26 | false ↦ elim (isOut (textValue s)) [ true ↦ 27 | false ↦ 0 ] ]) 0 → stage ≡ 0
+    go : (d t : Bool) → eqb stage 0 ≡ t → _≡_ {A = ℕ} (elim (d || not t) [ true ↦ 26 | false ↦ elim out [ true ↦ 27 | false ↦ 0 ] ]) 0 → stage ≡ 0
     go true t h k = absurd (omega arith)
     go false true h k = eqb-true stage 0 h
     go false false h k = absurd (omega arith)
@@ -43,6 +42,7 @@ module _ {P S P′ S′ : Type 0} (f : P → P′) (g : S → S′) where
   -- the two keepers agree; on a text, where the level holds none yet, as Bare says
   pub record Alike (how : Keeper P S) (how′ : Keeper P′ S′) (Bare : P → Type 0) : Type 0 where
     pub fresh-is : f (how .fresh) ≡ how′ .fresh
+    pub bars-is : (s : List ℕ) → how .bars s ≡ how′ .bars s
     pub fresh-bare : Bare (how .fresh)
     pub said-is : (s : List ℕ) (p : P) → Bare p → f (how .said s p) ≡ how′ .said s (f p)
     pub shut-is : (x : ℕ) (c p : P) (s : S) → how′ .shut x (f c) (f p) (g s) ≡ (f ((how .shut x c p s) .0), g ((how .shut x c p s) .1))
@@ -80,7 +80,7 @@ module _ {P S P′ S′ : Type 0} (f : P → P′) (g : S → S′) where
     event-ok r size (start x) h =
         unless-ok (startRefusal (length (r .under)) (r .top .label) (r .top .stage) x) _
         (λ e. alike .fresh-bare, (parent-plain (attribute x) (r .top) (h .0), h .1))
-    event-ok r size (text s) h = unless-ok (textRefusal (length (r .under)) (r .top .stage) s) _ (λ e. absurd (omega arith), h .1)
+    event-ok r size (text s) h = unless-ok (textRefusal (length (r .under)) (r .top .stage) (how .bars s)) _ (λ e. absurd (omega arith), h .1)
     event-ok r size (end x) h = unless-ok (endRefusal (length (r .under)) (r .top .label) x) _ (shut-ok r size (r .under) h (h .1))
 
     long : (r : Reading P S) → length (map mapLevel (r .under)) ≡ length (r .under)
@@ -90,9 +90,9 @@ module _ {P S P′ S′ : Type 0} (f : P → P′) (g : S → S′) where
     start-map r size x = rw (long r, ← alike .fresh-is) (unless-map (startRefusal (length (r .under)) (r .top .label) (r .top .stage) x) _)
 
     text-map : (r : Reading P S) (size : ℕ) (s : List ℕ) → Ok r → onText how′ (mapReading r) size s ≡ mapNext (onText how r size s)
-    text-map r size s h = rw (long r) (go (textRefusal (length (r .under)) (r .top .stage) s) refl)
+    text-map r size s h = rw (long r, ← alike .bars-is s) (go (textRefusal (length (r .under)) (r .top .stage) (how .bars s)) refl)
       where
-        go : (e : ℕ) → textRefusal (length (r .under)) (r .top .stage) s ≡ e →
+        go : (e : ℕ) → textRefusal (length (r .under)) (r .top .stage) (how .bars s) ≡ e →
             unless e (record {
               place = r .place + size;
               top = record { label = r .top .label; stage = 2; held = how′ .said s (f (r .top .held)) };
@@ -105,7 +105,7 @@ module _ {P S P′ S′ : Type 0} (f : P → P′) (g : S → S′) where
               under = r .under;
               state = r .state;
             }))
-        go zero e = rw (alike .said-is s (r .top .held) (h .0 (text-stage (length (r .under)) (r .top .stage) s e)))
+        go zero e = rw (alike .said-is s (r .top .held) (h .0 (text-stage (length (r .under)) (r .top .stage) (how .bars s) e)))
         go (suc n) e = refl
 
     shut-map : (r : Reading P S) (size : ℕ) (ls : List (Level P)) → shutInto how′ (mapReading r) size (map mapLevel ls) ≡ mapReading (shutInto how r size ls)

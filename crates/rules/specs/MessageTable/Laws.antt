@@ -13,8 +13,8 @@ use Rattle.lists.specs.Parts.{part}
 use Rattle.lists.specs.Checks.{Check, firstOf, FirstToFail}
 use Rattle.lists.specs.Checks.Laws.{first-zero}
 use Rattle.rules.specs.State.{attribute}
-use Rattle.rules.specs.Value.{textValue}
-use Rattle.rules.specs.Message.{Event, start, text, end, First, bad, got, labelled, texted, firstEvent, Level, Reading, Keeper, startAstray, startRefusal, isOut, textRefusal, endRefusal, lastRefusal, stageAfter, Next, refused, on, unless, shutInto, onEvent, begin}
+use Rattle.rules.specs.Book.{Meaning, outOfRange}
+use Rattle.rules.specs.Message.{Event, start, text, end, First, bad, got, labelled, texted, firstEvent, Level, Reading, Keeper, startAstray, startRefusal, textRefusal, endRefusal, lastRefusal, stageAfter, Next, refused, on, unless, shutInto, onEvent, begin}
 use Rattle.rules.specs.Message.Events.{sizeOf, Follows, unless-on, first-kind}
 use Rattle.rules.specs.MessageTable.{Open, Opens, rootAlone, closed, opensBy, opensAfter, atTop, startAmiss, textAmiss, endAmiss, messageRows}
 
@@ -110,19 +110,19 @@ top-same [] (o ∷ os) a = absurd a
 top-same (l ∷ ls) [] a = absurd a
 top-same (l ∷ ls) (o ∷ os) a = ne-eqb (suc (length ls)) 0 (λ e. omega arith)
 
--- ── the number at a place, by the reader ──
-abbrev pub eventNumber : {P S : Type 0} → Reading P S → Event → ℕ
-eventNumber r (start x) = startRefusal (length (r .under)) (r .top .label) (r .top .stage) x
-eventNumber r (text s) = textRefusal (length (r .under)) (r .top .stage) s
-eventNumber r (end x) = endRefusal (length (r .under)) (r .top .label) x
+-- ── the number at a place, by the reader; B: what the book means to the message ──
+abbrev pub eventNumber : Meaning → {P S : Type 0} → Reading P S → Event → ℕ
+eventNumber B r (start x) = startRefusal (length (r .under)) (r .top .label) (r .top .stage) x
+eventNumber B r (text s) = textRefusal (length (r .under)) (r .top .stage) (outOfRange B s)
+eventNumber B r (end x) = endRefusal (length (r .under)) (r .top .label) x
 
-abbrev pub numberFirst : {P S : Type 0} → Reading P S → First → ℕ
-numberFirst r (bad e) = e
-numberFirst r (got ev size) = eventNumber r ev
+abbrev pub numberFirst : Meaning → {P S : Type 0} → Reading P S → First → ℕ
+numberFirst B r (bad e) = e
+numberFirst B r (got ev size) = eventNumber B r ev
 
-abbrev pub numberAt : {P S : Type 0} → Reading P S → List ℕ → ℕ
-numberAt r [] = lastRefusal (length (r .under)) (r .top .stage)
-numberAt r (c ∷ cs) = numberFirst r (firstEvent c cs)
+abbrev pub numberAt : Meaning → {P S : Type 0} → Reading P S → List ℕ → ℕ
+numberAt B r [] = lastRefusal (length (r .under)) (r .top .stage)
+numberAt B r (c ∷ cs) = numberFirst B r (firstEvent c cs)
 
 -- it is the table's
 module _ {P S : Type 0} (r : Reading P S) (o : Opens) (st : Stands r o) where
@@ -139,51 +139,52 @@ module _ {P S : Type 0} (r : Reading P S) (o : Opens) (st : Stands r o) where
   end-same : (x : ℕ) → endAmiss o x ≡ eqb (length (r .under)) 0 || not (eqb x (r .top .label))
   end-same x = sym (rw (top-same (r .under) (o .under) (st .under), st .top .label) refl)
 
-  row-start : (cs : List ℕ) → firstOf (messageRows o (1 ∷ cs)) ≡ numberAt r (1 ∷ cs)
+module _ (B : Meaning) {P S : Type 0} (r : Reading P S) (o : Opens) (st : Stands r o) where
+  row-start : (cs : List ℕ) → firstOf (messageRows B o (1 ∷ cs)) ≡ numberAt B r (1 ∷ cs)
   unfolding firstOf firstEvent startRefusal pick
   row-start [] = refl
   row-start (a ∷ []) = refl
   row-start (a ∷ b ∷ z) =
       let long : ltb (suc (suc (suc (length z)))) 3 ≡ false = le-ltb (suc (suc (suc (length z)))) 3 (omega arith) in
-      rw (long, start-same (a + b * 256), depth-same (r .under) (o .under) (st .under)) refl
+      rw (long, start-same r o st (a + b * 256), depth-same (r .under) (o .under) (st .under)) refl
 
-  row-end : (cs : List ℕ) → firstOf (messageRows o (3 ∷ cs)) ≡ numberAt r (3 ∷ cs)
+  row-end : (cs : List ℕ) → firstOf (messageRows B o (3 ∷ cs)) ≡ numberAt B r (3 ∷ cs)
   unfolding firstOf firstEvent endRefusal pick
   row-end [] = refl
   row-end (a ∷ []) = refl
   row-end (a ∷ b ∷ z) =
       let long : ltb (suc (suc (suc (length z)))) 3 ≡ false = le-ltb (suc (suc (suc (length z)))) 3 (omega arith) in
-      rw (long, end-same (a + b * 256)) refl
+      rw (long, end-same r o st (a + b * 256)) refl
 
-  row-text : (cs : List ℕ) → firstOf (messageRows o (2 ∷ cs)) ≡ numberAt r (2 ∷ cs)
+  row-text : (cs : List ℕ) → firstOf (messageRows B o (2 ∷ cs)) ≡ numberAt B r (2 ∷ cs)
   unfolding firstOf firstEvent textRefusal pick part
   row-text [] = refl
   row-text (n ∷ z) = go (leb n (length z)) refl
     where
-      go : (t : Bool) → leb n (length z) ≡ t → firstOf (messageRows o (2 ∷ n ∷ z)) ≡ numberFirst r (elim t [ true ↦ got (text (take n z)) (2 + n) | false ↦ bad 22 ])
+      go : (t : Bool) → leb n (length z) ≡ t → firstOf (messageRows B o (2 ∷ n ∷ z)) ≡ numberFirst B r (elim t [ true ↦ got (text (take n z)) (2 + n) | false ↦ bad 22 ])
       go true e =
           let long : ltb (suc (suc (length z))) (2 + n) ≡ false = le-ltb (suc (suc (length z))) (2 + n) (omega (arith, leb-true n (length z) e)) in
-          rw (long, text-same) refl
+          rw (long, text-same r o st) refl
       go false e =
           let short : ltb (suc (suc (length z))) (2 + n) ≡ true = lt-ltb (suc (suc (length z))) (2 + n) (omega (arith, leb-false n (length z) e)) in
           rw short refl
 
-  row-none : (c : ℕ) (cs : List ℕ) → eqb c 1 ≡ false → eqb c 2 ≡ false → eqb c 3 ≡ false → firstOf (messageRows o (c ∷ cs)) ≡ numberAt r (c ∷ cs)
+  row-none : (c : ℕ) (cs : List ℕ) → eqb c 1 ≡ false → eqb c 2 ≡ false → eqb c 3 ≡ false → firstOf (messageRows B o (c ∷ cs)) ≡ numberAt B r (c ∷ cs)
   unfolding firstOf
   row-none c cs p q w =
       let is-not : (k : ℕ) → eqb c k ≡ false → c ≡ k → ⊥ = λ k f e. true≢false (sym (eq-eqb c k e) ∙ f) in
-      let table : firstOf (messageRows o (c ∷ cs)) ≡ 21 = rw (p, q, w) refl in
-      table ∙ sym (ap (numberFirst r) (first-kind c cs (is-not 1 p) (is-not 2 q) (is-not 3 w)))
+      let table : firstOf (messageRows B o (c ∷ cs)) ≡ 21 = rw (p, q, w) refl in
+      table ∙ sym (ap (numberFirst B r) (first-kind c cs (is-not 1 p) (is-not 2 q) (is-not 3 w)))
 
-  row-ended : firstOf (messageRows o []) ≡ numberAt r []
+  row-ended : firstOf (messageRows B o []) ≡ numberAt B r []
   unfolding firstOf lastRefusal pick
   row-ended = sym (rw (top-same (r .under) (o .under) (st .under), st .top .stage, child-is (o .top .child) (o .top .said) (st .top .one)) refl)
 
-  pub number-is : (rest : List ℕ) → firstOf (messageRows o rest) ≡ numberAt r rest
+  pub number-is : (rest : List ℕ) → firstOf (messageRows B o rest) ≡ numberAt B r rest
   number-is [] = row-ended
   number-is (c ∷ cs) = go (eqb c 1) (eqb c 2) (eqb c 3) refl refl refl
     where
-      go : (t u v : Bool) → eqb c 1 ≡ t → eqb c 2 ≡ u → eqb c 3 ≡ v → firstOf (messageRows o (c ∷ cs)) ≡ numberAt r (c ∷ cs)
+      go : (t u v : Bool) → eqb c 1 ≡ t → eqb c 2 ≡ u → eqb c 3 ≡ v → firstOf (messageRows B o (c ∷ cs)) ≡ numberAt B r (c ∷ cs)
       go true u v p q w = rw (eqb-true c 1 p) (row-start cs)
       go false true v p q w = rw (eqb-true c 2 q) (row-text cs)
       go false false true p q w = rw (eqb-true c 3 w) (row-end cs)
@@ -247,7 +248,7 @@ module _ {P S : Type 0} (how : Keeper P S) where
   stands-text : (r r′ : Reading P S) (o : Opens) (size : ℕ) (s : List ℕ) → Stands r o → onEvent how r size (text s) ≡ on r′ → Stands r′ (opensBy o (text s))
   unfolding pick textRefusal
   stands-text r r′ o size s st e =
-      let u = unless-on (textRefusal (length (r .under)) (r .top .stage) s) _ r′ e in
+      let u = unless-on (textRefusal (length (r .under)) (r .top .stage) (how .bars s)) _ r′ e in
       let amiss : textAmiss o ≡ false = text-same r o st ∙ (first-zero 26 _ _ (omega arith) (u .0)) .0 in
       let c : o .top .child ≡ false = child-not (atTop (o .under)) (o .top .child) (o .top .said) amiss in
       subst (λ q. Stands q (opensBy o (text s))) (u .1) (record { top = record { label = st .top .label; stage = refl; one = rw c refl }; under = st .under })

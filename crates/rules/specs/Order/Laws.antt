@@ -4,6 +4,7 @@ use mathlib.Core.Bool.{Bool, true, false, _||_, _&&_}
 use mathlib.Core.List.{List}
 use mathlib.Core.Option.{Option}
 use Prim.Native.Nat.{ℕ}
+use Rattle.rules.specs.Book.{Meaning}
 use Rattle.rules.specs.State.{State, fits}
 use Rattle.rules.specs.Value.{valueOf}
 use Rattle.rules.specs.Tree.{Forest}
@@ -17,21 +18,21 @@ or-swap false true false = refl
 or-swap false false true = refl
 or-swap false false false = refl
 
-pub child-reordered : (b : List State) {f g : Forest} → Reordered f g → someChild b f ≡ someChild b g
+pub child-reordered : (b : Meaning) {f g : Forest} → Reordered f g → someChild b f ≡ someChild b g
 unfolding someChild
 child-reordered b nothing = refl
 child-reordered b (keep {x} {t} p q) =
-    fun-ext λ l. fun-ext λ s. ap₂ (λ kid rest. rest l s || (fits l x && settle (λ a k here. says a (valueOf t) kid here) b 0 s)) (child-reordered b p) (child-reordered b q)
+    fun-ext λ l. fun-ext λ s. ap₂ (λ kid rest. rest l s || (fits l x && settle (λ a k here. says a (valueOf (b .reads) t) kid here) (b .states) 0 s)) (child-reordered b p) (child-reordered b q)
 child-reordered b (swap {x} {y} {t} {u} {k} {m} {f}) =
     fun-ext λ l. fun-ext λ s.
-    or-swap (someChild b f l s) (fits l y && settle (λ a n here. says a (valueOf u) (someChild b m) here) b 0 s)
-    (fits l x && settle (λ a n here. says a (valueOf t) (someChild b k) here) b 0 s)
+    or-swap (someChild b f l s) (fits l y && settle (λ a n here. says a (valueOf (b .reads) u) (someChild b m) here) (b .states) 0 s)
+    (fits l x && settle (λ a n here. says a (valueOf (b .reads) t) (someChild b k) here) (b .states) 0 s)
 child-reordered b (then p q) = child-reordered b p ∙ child-reordered b q
 
-pub matches-reordered : (b : List State) (t : Option (List ℕ)) {f g : Forest} → Reordered f g →
+pub matches-reordered : (b : Meaning) (t : Option (List ℕ)) {f g : Forest} → Reordered f g →
     matches b (record { text = t; children = f }) ≡ matches b (record { text = t; children = g })
 unfolding matches
-matches-reordered b t p = fun-ext λ j. ap (λ kid. settle (λ a k here. says a (valueOf t) kid here) b 0 j) (child-reordered b p)
+matches-reordered b t p = fun-ext λ j. ap (λ kid. settle (λ a k here. says a (valueOf (b .reads) t) kid here) (b .states) 0 j) (child-reordered b p)
 
 -- so the accepted filters are the same
 pub filters-reordered : (book : List ℕ) (t : Option (List ℕ)) {f g : Forest} → Reordered f g →

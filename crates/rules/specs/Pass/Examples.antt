@@ -21,11 +21,12 @@ use Rattle.rules.specs.Book.{
   stateAt,
   statesOfFirst,
   statesOf,
+  meaningOf,
 }
 use Rattle.rules.specs.Book.Examples as B
 use Rattle.rules.specs.DayFile.{messageCount, messageStart, messageLength, messageBody}
 use Rattle.rules.specs.DayFile.Examples.{two, entry}
-use Rattle.rules.specs.Value.{stripStart, stripBefore, stripEnd, digitsFrom, someDigits, wholeNumber, textValue}
+use Rattle.rules.specs.Value.{Value, number, out-of-range, stripStart, stripBefore, stripEnd, digitsFrom, someDigits, wholeNumber, textValue}
 use Rattle.rules.specs.Match.{settle, filtersWhere}
 use Rattle.rules.specs.Message.{
   Outcome,
@@ -62,7 +63,7 @@ unfolding passMessage message events firstEvent startRefusal textRefusal endRefu
     wholeNumber someDigits digitsFrom stripStart stripBefore stripEnd ask replyBy firstSlot keep slotsLent
     slotQuestion slotAnswer part patch sameList workOut setOf testEach either leavesOf completed settle fits statesOf
     statesOfFirst stateAt relationOf signed4 upTo filterCount bodyStart bodySize statesBefore
-passed body c = passMessage (statesOf book) body c
+passed body c = passMessage (meaningOf book) body c
 
 abbrev pub outcome : ℕ → ℕ → ℕ → Carried → Outcome (List ℕ) Carried
 outcome e p w c = record { refusal = e; place = p; root = numbers w; state = c }
@@ -99,6 +100,15 @@ pub joined : map (λ (s : List ℕ). passed s (carried 0 0 1 (slot 0 32769 8 ++ 
     (slot 0 32769 8 ++ (slot 4 2 2 ++ replicate 17 6)) ∷ []
 unfolding passed
 joined = refl
+
+-- 27 and a text's LEAF states, as the book reads texts: to one every text is out of range, to the other its value is 7
+pub as-read : map (λ (v : Value). (passMessage (record { states = statesOf book; reads = λ s. v }) (all (begins 1 ∷
+    begins 2 ∷ says [] ∷ ends 2 ∷ ends 1 ∷ [])) (carried 0 0 0 [])) .refusal) (out-of-range ∷ number (pos 7) ∷ []) ++
+    (passMessage (record { states = statesOf book; reads = λ s. number (pos 7) }) (all (begins 1 ∷ begins 2 ∷ says [] ∷
+    ends 2 ∷ ends 1 ∷ [])) (carried 0 0 0 [])) .root
+    ≡ 27 ∷ 0 ∷ numbers 17
+unfolding passed
+as-read = refl
 
 -- ── "three 64-bit numbers for each message: refusal, place, filters" ──
 -- completed at the root, NOT 1 fails where state 4 is; a refused message has no filter

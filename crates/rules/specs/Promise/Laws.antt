@@ -9,7 +9,7 @@ use Rattle.lists.specs.Lending.{was}
 use Rattle.rules.specs.Book.{bookRefusal, bodyOf, partOf}
 use Rattle.rules.specs.DayFile.{dayRefusal}
 use Rattle.rules.specs.Run.{Lent, run}
-use Rattle.rules.specs.Calls.{Totals, passFrom, QuestionLent, answerQuestion}
+use Rattle.rules.specs.Calls.{Counts, passFrom, QuestionLent, answerQuestion}
 use Rattle.rules.specs.Promise.{
   lent,
   RunPromise,
@@ -24,7 +24,7 @@ use Rattle.rules.specs.Promise.{
 pub the-run : (l : Lent) → RunPromise l (run l)
 the-run l = refl
 
-pub the-pass : (l : Lent) (c : Totals) → PassPromise l c (passFrom l c)
+pub the-pass : (l : Lent) (c : Counts) → PassPromise l c (passFrom l c)
 the-pass l c = refl
 
 pub the-reply : (l : QuestionLent) → QuestionPromise l (answerQuestion l)

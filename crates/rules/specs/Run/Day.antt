@@ -15,13 +15,13 @@ use Rattle.lists.specs.Parts.{part}
 use Rattle.lists.specs.Below.{someBelow}
 use Rattle.lists.specs.Below.Laws.{upTo-long}
 use Rattle.rules.specs.State.{State}
-use Rattle.rules.specs.Book.{filterCount, bodySize, statesBefore, badSizes, statesOfFirst, statesOf}
+use Rattle.rules.specs.Book.{mostStates, filterCount, bodySize, statesBefore, badSizes, statesOfFirst, statesOf, Meaning, meaningOf}
 use Rattle.rules.specs.DayFile.{messageCount, messageBody}
 use Rattle.rules.specs.Tree.{Node}
 use Rattle.rules.specs.Sets.{Question, workOut}
-use Rattle.rules.specs.Memory.{nine, slotQuestion, slotAnswer, slotsLent, slotsWritten, askAll}
+use Rattle.rules.specs.Memory.{slotWidth, nine, slotQuestion, slotAnswer, slotsLent, slotsWritten, askAll}
 use Rattle.rules.specs.Pass.{Passed, passMessage, answerRow, passTo}
-use Rattle.rules.specs.Run.{Lent, Returned, runRefusal, passDay, atFirst, run, withMemory}
+use Rattle.rules.specs.Run.{rowWidth, workspaceWidth, Lent, Returned, runRefusal, passDay, atFirst, run, withMemory}
 use Rattle.rules.specs.Asked.{readTree, questionOf, rightAnswer, messageQuestions, questionsTo, dayQuestions, sameQuestion, isAmong, different, firstDifferent, notKept, messageRow, nodesTo, HeldRight, dayNodes, treeRow, treeRows}
 use Rattle.rules.specs.Run.Laws.{accepted-row, run-accepted, run-refused}
 use Rattle.rules.specs.Match.Laws.{work-is-right}
@@ -29,7 +29,7 @@ use Rattle.rules.specs.Asked.Different.{same-eq, among-at, members}
 use Rattle.rules.specs.Memory.FirstC.{Eight, eight-first, written-question, written-answer, kept-is}
 use Rattle.rules.specs.Pass.Laws.{nodeQuestions, nodes-eight, after, pass-tree, row-is}
 
--- ── an accepted book has at most 512 states ──
+-- ── an accepted book has no more states than it may ──
 pub states-long : (b : List ℕ) (k : ℕ) → length (statesOfFirst b k) ≡ statesBefore b k
 unfolding statesOfFirst statesBefore
 states-long b zero = refl
@@ -39,34 +39,34 @@ or-right : (a b : Bool) → a || b ≡ false → b ≡ false
 or-right true b e = absurd (true≢false e)
 or-right false b e = e
 
-pub few-states : (l : Lent) → runRefusal l ≡ 0 → length (statesOf (l .book)) ≤ 512
+pub few-states : (l : Lent) → runRefusal l ≡ 0 → length (statesOf (l .book)) ≤ mostStates
 unfolding statesOf badSizes
 few-states l e =
     let b : badSizes (l .book) ≡ false = accepted-row l e 4 in
     rw (states-long (l .book) (filterCount (l .book))) (ltb-false _ _ (or-right (someBelow (λ k. eqb (bodySize (l .book) k) 0) (filterCount (l .book))) _ b))
 
 -- the questions asked are theirs
-pub questions-nodes : (b : List State) (day : List ℕ) (k : ℕ) → questionsTo b day k ≡ nodeQuestions b (nodesTo day k)
+pub questions-nodes : (b : Meaning) (day : List ℕ) (k : ℕ) → questionsTo b day k ≡ nodeQuestions b (nodesTo b day k)
 unfolding questionsTo nodesTo messageQuestions
 questions-nodes b day zero = refl
 questions-nodes b day (suc k) =
-    ap (λ qs. qs ++ messageQuestions b (messageBody day k)) (questions-nodes b day k) ∙ sym (map-append (questionOf b) (nodesTo day k) ((readTree (messageBody day k)) .state))
+    ap (λ qs. qs ++ messageQuestions b (messageBody day k)) (questions-nodes b day k) ∙ sym (map-append (questionOf b) (nodesTo b day k) ((readTree b (messageBody day k)) .state))
 
 -- the pass over them, begun with no slot filled
-pub pass-to : (book day m : List ℕ) → length (statesOf book) ≤ 512 → (k : ℕ) →
-    passTo book day (atFirst m) k ≡ record { rows = treeRows book day k; carried = after (statesOf book) m (nodesTo day k) }
+pub pass-to : (book day m : List ℕ) → length (statesOf book) ≤ mostStates → (k : ℕ) →
+    passTo book day (atFirst m) k ≡ record { rows = treeRows book day k; carried = after (meaningOf book) m (nodesTo (meaningOf book) day k) }
 unfolding passTo nodesTo askAll
 pass-to book day m few zero = refl
 pass-to book day m few (suc k) =
     ap (λ p. next p) (pass-to book day m few k) ∙ λ i. record {
-      rows = treeRows book day k ++ (row-is book few m (messageBody day k) (nodesTo day k)) i;
-      carried = (ap (λ o. o .state) (pass-tree (statesOf book) few m (messageBody day k) (nodesTo day k))) i;
+      rows = treeRows book day k ++ (row-is book few m (messageBody day k) (nodesTo (meaningOf book) day k)) i;
+      carried = (ap (λ o. o .state) (pass-tree (meaningOf book) few m (messageBody day k) (nodesTo (meaningOf book) day k))) i;
     }
   where
     next : Passed → Passed
     next p = record {
-      rows = p .rows ++ answerRow book (passMessage (statesOf book) (messageBody day k) (p .carried));
-      carried = (passMessage (statesOf book) (messageBody day k) (p .carried)) .state;
+      rows = p .rows ++ answerRow book (passMessage (meaningOf book) (messageBody day k) (p .carried));
+      carried = (passMessage (meaningOf book) (messageBody day k) (p .carried)) .state;
     }
 
 -- ── the run ──
@@ -80,19 +80,19 @@ dayReturned l =
       asked = length qs;
       anew = notKept C [] qs;
       filled = length (firstDifferent C qs);
-      memory = slotsWritten (statesOf (l .book)) (firstDifferent C qs) ++ drop (17 * length (firstDifferent C qs)) (l .memory);
-      answers = treeRows (l .book) (l .day) (messageCount (l .day)) ++ drop (3 * messageCount (l .day)) (l .answers);
-      workspace = replicate 650 0 ++ drop 650 (l .workspace);
+      memory = slotsWritten (statesOf (l .book)) (firstDifferent C qs) ++ drop (slotWidth * length (firstDifferent C qs)) (l .memory);
+      answers = treeRows (l .book) (l .day) (messageCount (l .day)) ++ drop (rowWidth * messageCount (l .day)) (l .answers);
+      workspace = replicate workspaceWidth 0 ++ drop workspaceWidth (l .workspace);
     }
 
 pub day-is : (l : Lent) → runRefusal l ≡ 0 → run l ≡ dayReturned l
 unfolding dayReturned dayQuestions passDay
 day-is l e =
-    let b : List State = statesOf (l .book) in
+    let b : Meaning = meaningOf (l .book) in
     let N : ℕ = messageCount (l .day) in
-    let eight : Eight (questionsTo b (l .day) N) = rw (questions-nodes b (l .day) N) (nodes-eight b (nodesTo (l .day) N)) in
+    let eight : Eight (questionsTo b (l .day) N) = rw (questions-nodes b (l .day) N) (nodes-eight b (nodesTo b (l .day) N)) in
     run-accepted l e
-    ∙ rw (pass-to (l .book) (l .day) (l .memory) (few-states l e) N, ← questions-nodes b (l .day) N, kept-is b (l .memory) (questionsTo b (l .day) N) eight)
+    ∙ rw (pass-to (l .book) (l .day) (l .memory) (few-states l e) N, ← questions-nodes b (l .day) N, kept-is (b .states) (l .memory) (questionsTo b (l .day) N) eight)
 
 pub refusal-apart : (l : Lent) (m : List ℕ) → runRefusal (withMemory l m) ≡ runRefusal l
 unfolding runRefusal
@@ -110,22 +110,22 @@ memory-apart l m = go (runRefusal l) refl
     go (suc n) e = rw (run-refused l n e, run-refused (withMemory l m) n (refusal-apart l m ∙ e)) (refl, refl, refl)
 
 -- ── the rows, message by message ──
-pub rows-long : (book day : List ℕ) (n : ℕ) → length (treeRows book day n) ≡ 3 * n
+pub rows-long : (book day : List ℕ) (n : ℕ) → length (treeRows book day n) ≡ rowWidth * n
 rows-long book day zero = refl
 rows-long book day (suc n) = rw (length-append, rows-long book day n) (omega arith)
 
--- message k's row stands at 3k, whatever follows the rows
-pub row-at : (book day rest : List ℕ) (n k : ℕ) → k < n → part (treeRows book day n ++ rest) (3 * k) 3 ≡ messageRow book (messageBody day k)
+-- message k's row stands at its place, whatever follows the rows
+pub row-at : (book day rest : List ℕ) (n k : ℕ) → k < n → part (treeRows book day n ++ rest) (rowWidth * k) rowWidth ≡ messageRow book (messageBody day k)
 unfolding part
 row-at book day rest zero k h = absurd (not-suc-le-zero h)
 row-at book day rest (suc n) k h = elim (decLt k n) [
   | yes l ↦ rw append-assoc (row-at book day (messageRow book (messageBody day n) ++ rest) n k l)
   | no l ↦ let e : k ≡ n = omega arith in
-      rw (e, append-assoc, drop-at (treeRows book day n) (messageRow book (messageBody day n) ++ rest) (3 * n) (rows-long book day n))
+      rw (e, append-assoc, drop-at (treeRows book day n) (messageRow book (messageBody day n) ++ rest) (rowWidth * n) (rows-long book day n))
 ]
 
 -- a question that is among those of some nodes is one node's
-asked-by : (b : List State) (ns : List Node) (q : Question) → isAmong q (nodeQuestions b ns) ≡ true →
+asked-by : (b : Meaning) (ns : List Node) (q : Question) → isAmong q (nodeQuestions b ns) ≡ true →
     (n : Node) × (j : ℕ) × (j < length ns) × (getD ns j n ≡ n) × (q ≡ questionOf b n)
 unfolding isAmong
 asked-by b [] q e = absurd (false≢true e)
@@ -153,8 +153,8 @@ unfolding firstDifferent
 first-among C qs q e = sym (members q qs) ∙ among-take C (different qs) q e
 
 -- the first C different questions of some nodes, in their slots: each asks a node's question, with its right answer
-pub slot-right : (b : List State) → length b ≤ 512 → (ns : List Node) (C : ℕ) (rest : List ℕ) (i : ℕ) → i < length (firstDifferent C (nodeQuestions b ns)) →
-    HeldRight b ns (slotsWritten b (firstDifferent C (nodeQuestions b ns)) ++ rest) i
+pub slot-right : (b : Meaning) → length (b .states) ≤ mostStates → (ns : List Node) (C : ℕ) (rest : List ℕ) (i : ℕ) → i < length (firstDifferent C (nodeQuestions b ns)) →
+    HeldRight b ns (slotsWritten (b .states) (firstDifferent C (nodeQuestions b ns)) ++ rest) i
 slot-right b few ns C rest i h =
     let ks : List Question = firstDifferent C (nodeQuestions b ns) in
     let d : Question = record { states = []; label = 0 } in
@@ -166,10 +166,10 @@ slot-right b few ns C rest i h =
       place = r .1;
       closed = r .2;
       is-node = r .3;
-      asks = written-question b ks rest i d e h ∙ ap nine (r .4);
-      answers = written-answer b ks rest i d e h ∙ ap (workOut b) (r .4) ∙ work-is-right b few (r .0);
+      asks = written-question (b .states) ks rest i d e h ∙ ap nine (r .4);
+      answers = written-answer (b .states) ks rest i d e h ∙ ap (workOut (b .states)) (r .4) ∙ work-is-right b few (r .0);
     }
 
-pub day-nodes : (book day : List ℕ) → dayQuestions book day ≡ nodeQuestions (statesOf book) (dayNodes day)
+pub day-nodes : (book day : List ℕ) → dayQuestions book day ≡ nodeQuestions (meaningOf book) (dayNodes (meaningOf book) day)
 unfolding dayQuestions
-day-nodes book day = questions-nodes (statesOf book) day (messageCount day)
+day-nodes book day = questions-nodes (meaningOf book) day (messageCount day)

@@ -7,7 +7,7 @@ use lib.Dec.{eqb}
 use lib.IntN.{ℤ, pos}
 use lib.ListN.{replicate}
 use Rattle.lists.specs.Choice.{pick}
-use Rattle.rules.specs.State.{State, TRUE, LEAF, AND, OR, NOT, STEP, equal, differs, fits}
+use Rattle.rules.specs.State.{compares, State, TRUE, LEAF, AND, OR, NOT, STEP, equal, differs, fits}
 use Rattle.rules.specs.Value.{Value, no-text, no-number, out-of-range, number}
 use Rattle.rules.specs.Match.{settle}
 use Rattle.rules.specs.Sets.{
@@ -54,8 +54,8 @@ pub sets : setOf (replicate 512 TRUE) (λ s k. eqb k 0 || eqb k 63 || eqb k 64 |
 unfolding setOf testEach
 sets = refl
 
-pub by-state : map (λ (v : Value). leavesOf (TRUE ∷ LEAF equal (pos 5) ∷ AND 3 4 ∷ LEAF differs (pos 5) ∷ OR 5 5 ∷
-    NOT 6 ∷ STEP 0 0 ∷ LEAF equal (pos 6) ∷ []) v) (number (pos 5) ∷ number (pos 6) ∷ no-number ∷ no-text ∷
+pub by-state : map (λ (v : Value). leavesOf (TRUE ∷ LEAF (compares equal (pos 5)) ∷ AND 3 4 ∷ LEAF (compares differs (pos 5)) ∷ OR 5 5 ∷
+    NOT 6 ∷ STEP 0 0 ∷ LEAF (compares equal (pos 6)) ∷ []) v) (number (pos 5) ∷ number (pos 6) ∷ no-number ∷ no-text ∷
     out-of-range ∷ [])
     ≡ (2 ∷ 0 ∷ 0 ∷ 0 ∷ 0 ∷ 0 ∷ 0 ∷ 0 ∷ []) ∷ (136 ∷ 0 ∷ 0 ∷ 0 ∷ 0 ∷ 0 ∷ 0 ∷ 0 ∷ []) ∷ replicate 8 0 ∷ replicate 8 0 ∷
     replicate 8 0 ∷ []
@@ -79,7 +79,7 @@ joined-once = refl
 -- ── working out: "completes TRUE, AND, OR and NOT over the asked set by the match rule" ──
 -- a state of each kind, own as asked; state 0 is in the set and state 1 is not
 pub kinds-complete : map (λ (own : Bool). map (λ (s : State). completes s own (λ k. eqb k 0)) (TRUE ∷
-    LEAF equal (pos 5) ∷ AND 0 0 ∷ AND 0 1 ∷ AND 1 0 ∷ AND 1 1 ∷ OR 0 0 ∷ OR 0 1 ∷ OR 1 0 ∷ OR 1 1 ∷ NOT 0 ∷ NOT 1 ∷
+    LEAF (compares equal (pos 5)) ∷ AND 0 0 ∷ AND 0 1 ∷ AND 1 0 ∷ AND 1 1 ∷ OR 0 0 ∷ OR 0 1 ∷ OR 1 0 ∷ OR 1 1 ∷ NOT 0 ∷ NOT 1 ∷
     STEP 0 0 ∷ STEP 0 1 ∷ [])) (false ∷ true ∷ [])
     ≡ (true ∷ false ∷ true ∷ false ∷ false ∷ false ∷ true ∷ true ∷ true ∷ false ∷ false ∷ true ∷ false ∷ false ∷ []) ∷
     (true ∷ true ∷ true ∷ false ∷ false ∷ false ∷ true ∷ true ∷ true ∷ false ∷ false ∷ true ∷ true ∷ true ∷ []) ∷ []
@@ -89,7 +89,7 @@ kinds-complete = refl
 -- the NOT and the AND
 -- themselves, which play no part. There is no state 6
 abbrev pub six : List State
-six = NOT 1 ∷ AND 2 3 ∷ LEAF equal (pos 5) ∷ OR 4 5 ∷ STEP 2 1 ∷ TRUE ∷ []
+six = NOT 1 ∷ AND 2 3 ∷ LEAF (compares equal (pos 5)) ∷ OR 4 5 ∷ STEP 2 1 ∷ TRUE ∷ []
 
 abbrev pub alone : ℕ → List ℕ
 alone w = w ∷ replicate 7 0
@@ -106,7 +106,7 @@ completed-are = refl
 
 -- "each STEP whose label fits and whose successor the completed set holds": of the kinds only STEP; label 2 and state
 -- 0 hold
-pub kinds-given : map (givesStep 2 (λ k. eqb k 0)) (TRUE ∷ LEAF equal (pos 5) ∷ AND 0 0 ∷ OR 0 0 ∷ NOT 1 ∷ STEP 2 0 ∷
+pub kinds-given : map (givesStep 2 (λ k. eqb k 0)) (TRUE ∷ LEAF (compares equal (pos 5)) ∷ AND 0 0 ∷ OR 0 0 ∷ NOT 1 ∷ STEP 2 0 ∷
     STEP 2 1 ∷ STEP 3 0 ∷ STEP 0 0 ∷ STEP 32768 0 ∷ [])
     ≡ false ∷ false ∷ false ∷ false ∷ false ∷ true ∷ false ∷ false ∷ true ∷ false ∷ []
 unfolding fits pick

@@ -13,9 +13,10 @@ use lib.Seq.{ext-getD, getD-set-same, getD-set-other, getD-take, getD-drop, drop
 use lib.Pow.{shr-shr, pow-pos, shl-exact}
 use lib.Bits.{bitOr, bitXor, or-shr, or-mod, or-lt, xor-shr, xor-mod}
 use borrow.Author.Tests.{eq-eqb, ne-eqb, ltb-true, ltb-false}
+use Rattle.rules.specs.Book.{mostStates}
 use Rattle.lists.specs.Below.{bit}
 use Rattle.rules.specs.State.{State, TRUE}
-use Rattle.rules.specs.Sets.{has, numberOf, numbersOf, testEach, setOf, either, noStates, bitAt}
+use Rattle.rules.specs.Sets.{setWidth, bitsEach, has, numberOf, numbersOf, testEach, setOf, either, noStates, bitAt}
 
 half-number : (x : Bool) (n : ℕ) → (bit x + 2 * n) / 2 ≡ n
 half-number true n = omega arith
@@ -42,39 +43,33 @@ number-lt (suc n) (x ∷ xs) h = rw (pow-suc 2 n) (go x (number-lt n xs (omega a
     go true h = omega arith
     go false h = omega arith
 
--- the bits of `|`
-or-of : (x y : ℕ) → x < 2 → y < 2 → eqb (bitOr x y) 1 ≡ eqb x 1 || eqb y 1
-or-of zero zero h k = refl
-or-of zero (suc zero) h k = refl
-or-of (suc zero) zero h k = refl
-or-of (suc zero) (suc zero) h k = refl
-or-of zero (suc (suc y)) h k = absurd (omega arith)
-or-of (suc zero) (suc (suc y)) h k = absurd (omega arith)
-or-of (suc (suc x)) y h k = absurd (omega arith)
+-- a bit of what is worked out bit by bit, from the four cases
+bit-of : (op : ℕ → ℕ → ℕ) (g : Bool → Bool → Bool) (x y : ℕ) → x < 2 → y < 2 →
+    eqb (op 0 0) 1 ≡ g false false → eqb (op 0 1) 1 ≡ g false true → eqb (op 1 0) 1 ≡ g true false → eqb (op 1 1) 1 ≡ g true true →
+    eqb (op x y) 1 ≡ g (eqb x 1) (eqb y 1)
+bit-of op g zero zero h k a b c d = a
+bit-of op g zero (suc zero) h k a b c d = b
+bit-of op g (suc zero) zero h k a b c d = c
+bit-of op g (suc zero) (suc zero) h k a b c d = d
+bit-of op g zero (suc (suc y)) h k a b c d = absurd (omega arith)
+bit-of op g (suc zero) (suc (suc y)) h k a b c d = absurd (omega arith)
+bit-of op g (suc (suc x)) y h k a b c d = absurd (omega arith)
 
+-- the bits of `|`
 pub or-bit : (a b k : ℕ) → bitAt (bitOr a b) k ≡ bitAt a k || bitAt b k
 or-bit a b k =
     ap (λ n. eqb n 1) (ap (λ n. n % 2) (or-shr a b k) ∙ or-mod (a / 2 ^ k) (b / 2 ^ k) 1)
-    ∙ or-of (a / 2 ^ k % 2) (b / 2 ^ k % 2) (omega arith) (omega arith)
+    ∙ bit-of bitOr (λ x y. x || y) (a / 2 ^ k % 2) (b / 2 ^ k % 2) (omega arith) (omega arith) refl refl refl refl
 
 -- the bits of `^`
 abbrev pub exactlyOne : Bool → Bool → Bool
 exactlyOne true y = not y
 exactlyOne false y = y
 
-xor-of : (x y : ℕ) → x < 2 → y < 2 → eqb (bitXor x y) 1 ≡ exactlyOne (eqb x 1) (eqb y 1)
-xor-of zero zero h k = refl
-xor-of zero (suc zero) h k = refl
-xor-of (suc zero) zero h k = refl
-xor-of (suc zero) (suc zero) h k = refl
-xor-of zero (suc (suc y)) h k = absurd (omega arith)
-xor-of (suc zero) (suc (suc y)) h k = absurd (omega arith)
-xor-of (suc (suc x)) y h k = absurd (omega arith)
-
 pub xor-bit : (a b k : ℕ) → bitAt (bitXor a b) k ≡ exactlyOne (bitAt a k) (bitAt b k)
 xor-bit a b k =
     ap (λ n. eqb n 1) (ap (λ n. n % 2) (xor-shr a b k) ∙ xor-mod (a / 2 ^ k) (b / 2 ^ k) 1)
-    ∙ xor-of (a / 2 ^ k % 2) (b / 2 ^ k % 2) (omega arith) (omega arith)
+    ∙ bit-of bitXor exactlyOne (a / 2 ^ k % 2) (b / 2 ^ k % 2) (omega arith) (omega arith) refl refl refl refl
 
 -- the bits of `1 << i`
 pub pow-bit : (i k : ℕ) → bitAt (2 ^ i) k ≡ eqb i k
@@ -92,9 +87,9 @@ pow-bit (suc i) (suc k) =
     half : (i : ℕ) → 2 ^ suc i / 2 ^ 1 ≡ 2 ^ i
     half i = omega arith
 
--- what the code's `1 << (k % 64)` holds
-pub bit-shl : (k : ℕ) → (1 * 2 ^ (k % 64)) % 2 ^ 64 ≡ 2 ^ (k % 64)
-bit-shl k = shl-exact 1 (k % 64) 64 (omega arith) (omega arith) ∙ one-mul (2 ^ (k % 64))
+-- what the code's `1 << (k % bitsEach)` holds
+pub bit-shl : (k : ℕ) → (1 * 2 ^ (k % bitsEach)) % 2 ^ 64 ≡ 2 ^ (k % bitsEach)
+bit-shl k = shl-exact 1 (k % bitsEach) bitsEach (omega arith) (omega arith) ∙ one-mul (2 ^ (k % bitsEach))
 
 half-bit : (w k : ℕ) → bitAt (w / 2) k ≡ bitAt w (suc k)
 half-bit w k = ap (λ n. eqb (n % 2) 1) (shr-shr w 1 k ∙ ap (λ j. w / 2 ^ j) (one-add k))
@@ -120,25 +115,25 @@ bits-ext (suc n) w u h k e =
     omega arith
 
 -- ── a set that is made ──
-numbers-bit : (n : ℕ) (xs : List Bool) (k : ℕ) → k < 64 * n → has (numbersOf n xs) k ≡ getD xs k false
+numbers-bit : (n : ℕ) (xs : List Bool) (k : ℕ) → k < bitsEach * n → has (numbersOf n xs) k ≡ getD xs k false
 numbers-bit zero xs k h = absurd (omega arith)
-numbers-bit (suc n) xs k h = go (ltb k 64) refl (λ j u. numbers-bit n (drop 64 xs) j u)
+numbers-bit (suc n) xs k h = go (ltb k bitsEach) refl (λ j u. numbers-bit n (drop bitsEach xs) j u)
   where
-    go : (t : Bool) → ltb k 64 ≡ t → ((j : ℕ) → j < 64 * n → has (numbersOf n (drop 64 xs)) j ≡ getD (drop 64 xs) j false) → has (numbersOf (suc n) xs) k ≡ getD xs k false
+    go : (t : Bool) → ltb k bitsEach ≡ t → ((j : ℕ) → j < bitsEach * n → has (numbersOf n (drop bitsEach xs)) j ≡ getD (drop bitsEach xs) j false) → has (numbersOf (suc n) xs) k ≡ getD xs k false
     go true e ih =
-        let l : k < 64 = ltb-true k 64 e in
-        rw (div-eq-of-lt l, mod-eq-of-lt l) (number-bit (take 64 xs) k ∙ getD-take 64 xs k false l)
+        let l : k < bitsEach = ltb-true k bitsEach e in
+        rw (div-eq-of-lt l, mod-eq-of-lt l) (number-bit (take bitsEach xs) k ∙ getD-take bitsEach xs k false l)
     go false e ih =
-        let l : 64 ≤ k = ltb-false k 64 e in
-        let d : k / 64 ≡ suc ((k - 64) / 64) = omega arith in
-        let m : k % 64 ≡ (k - 64) % 64 = omega arith in
-        let w : 64 + (k - 64) ≡ k = omega arith in
-        rw (d, m) (ih (k - 64) (omega arith) ∙ getD-drop 64 xs (k - 64) false ∙ ap (λ i. getD xs i false) w)
+        let l : bitsEach ≤ k = ltb-false k bitsEach e in
+        let d : k / bitsEach ≡ suc ((k - bitsEach) / bitsEach) = omega arith in
+        let m : k % bitsEach ≡ (k - bitsEach) % bitsEach = omega arith in
+        let w : bitsEach + (k - bitsEach) ≡ k = omega arith in
+        rw (d, m) (ih (k - bitsEach) (omega arith) ∙ getD-drop bitsEach xs (k - bitsEach) false ∙ ap (λ i. getD xs i false) w)
 
 numbers-lt : (n : ℕ) (xs : List Bool) (i : ℕ) → getD (numbersOf n xs) i 0 < 2 ^ 64
 numbers-lt zero xs i = omega arith
-numbers-lt (suc n) xs zero = number-lt 64 (take 64 xs) (rw length-take (omega arith))
-numbers-lt (suc n) xs (suc i) = numbers-lt n (drop 64 xs) i
+numbers-lt (suc n) xs zero = number-lt bitsEach (take bitsEach xs) (rw length-take (omega arith))
+numbers-lt (suc n) xs (suc i) = numbers-lt n (drop bitsEach xs) i
 
 row-at : (f : State → ℕ → Bool) (b : List State) (k j : ℕ) → j < length b → getD (testEach f b k) j false ≡ f (getD b j TRUE) (k + j)
 unfolding testEach
@@ -151,7 +146,7 @@ unfolding testEach
 row-long f [] k = refl
 row-long f (s ∷ ss) k = ap suc (row-long f ss (suc k))
 
-pub setOf-long : (b : List State) (f : State → ℕ → Bool) → length (setOf b f) ≡ 8
+pub setOf-long : (b : List State) (f : State → ℕ → Bool) → length (setOf b f) ≡ setWidth
 unfolding setOf
 setOf-long b f = refl
 
@@ -159,11 +154,11 @@ pub setOf-fits : (b : List State) (f : State → ℕ → Bool) (i : ℕ) → get
 unfolding setOf
 setOf-fits b f i = numbers-lt 8 (testEach f b 0) i
 
-pub has-setOf : (b : List State) (f : State → ℕ → Bool) (k : ℕ) → k < length b → length b ≤ 512 → has (setOf b f) k ≡ f (getD b k TRUE) k
+pub has-setOf : (b : List State) (f : State → ℕ → Bool) (k : ℕ) → k < length b → length b ≤ mostStates → has (setOf b f) k ≡ f (getD b k TRUE) k
 unfolding setOf
 has-setOf b f k h u = numbers-bit 8 (testEach f b 0) k (omega arith) ∙ rw zero-add at (row-at f b 0 k h)
 
-pub has-past : (b : List State) (f : State → ℕ → Bool) (k : ℕ) → length b ≤ k → k < 512 → has (setOf b f) k ≡ false
+pub has-past : (b : List State) (f : State → ℕ → Bool) (k : ℕ) → length b ≤ k → k < mostStates → has (setOf b f) k ≡ false
 unfolding setOf
 has-past b f k h u = numbers-bit 8 (testEach f b 0) k (omega arith) ∙ List·getD-eq-default (testEach f b 0) false {n = k} (rw row-long h)
 
@@ -180,16 +175,16 @@ unfolding setOf
 setOf-agree b f g e = ap (numbersOf 8) (row-agree f g b 0 (λ i h. rw zero-add (e i h)))
 
 -- a set is its bits
-pub set-ext : (s t : List ℕ) → length s ≡ 8 → length t ≡ 8 → ((i : ℕ) → getD s i 0 < 2 ^ 64) → ((i : ℕ) → getD t i 0 < 2 ^ 64) →
-    ((k : ℕ) → k < 512 → has s k ≡ has t k) → s ≡ t
+pub set-ext : (s t : List ℕ) → length s ≡ setWidth → length t ≡ setWidth → ((i : ℕ) → getD s i 0 < 2 ^ 64) → ((i : ℕ) → getD t i 0 < 2 ^ 64) →
+    ((k : ℕ) → k < mostStates → has s k ≡ has t k) → s ≡ t
 set-ext s t e d u w f =
     ext-getD 0 s t (e ∙ sym d)
     (λ i h.
-    bits-ext 64 (getD s i 0) (getD t i 0) (u i) (w i)
+    bits-ext bitsEach (getD s i 0) (getD t i 0) (u i) (w i)
     (λ k b.
-    let q : (i * 64 + k) / 64 ≡ i = omega arith in
-    let m : (i * 64 + k) % 64 ≡ k = omega arith in
-    rw (q, m) at (f (i * 64 + k) (omega arith))))
+    let q : (i * bitsEach + k) / bitsEach ≡ i = omega arith in
+    let m : (i * bitsEach + k) % bitsEach ≡ k = omega arith in
+    rw (q, m) at (f (i * bitsEach + k) (omega arith))))
 
 -- ── two sets joined ──
 pub either-at : (a b : List ℕ) (i : ℕ) → i < 8 → getD (either a b) i 0 ≡ bitOr (getD a i 0) (getD b i 0)
@@ -204,23 +199,23 @@ either-at a b (suc (suc (suc (suc (suc (suc zero)))))) h = refl
 either-at a b (suc (suc (suc (suc (suc (suc (suc zero))))))) h = refl
 either-at a b (suc (suc (suc (suc (suc (suc (suc (suc i)))))))) h = absurd (omega arith)
 
-pub either-long : (a b : List ℕ) → length (either a b) ≡ 8
+pub either-long : (a b : List ℕ) → length (either a b) ≡ setWidth
 unfolding either
 either-long a b = refl
 
 pub either-fits : (a b : List ℕ) → ((i : ℕ) → getD a i 0 < 2 ^ 64) → ((i : ℕ) → getD b i 0 < 2 ^ 64) → (i : ℕ) → getD (either a b) i 0 < 2 ^ 64
 either-fits a b u w i = elim (decLt i 8) [
-  | yes h ↦ rw (either-at a b i h) (or-lt 64 (getD a i 0) (getD b i 0) (u i) (w i))
+  | yes h ↦ rw (either-at a b i h) (or-lt bitsEach (getD a i 0) (getD b i 0) (u i) (w i))
   | no h ↦ rw (List·getD-eq-default (either a b) 0 {n = i} (rw either-long (omega arith))) (omega arith)
 ]
 
-pub has-either : (a b : List ℕ) (k : ℕ) → k < 512 → has (either a b) k ≡ has a k || has b k
-has-either a b k h = rw (either-at a b (k / 64) (omega arith)) (or-bit (getD a (k / 64) 0) (getD b (k / 64) 0) (k % 64))
+pub has-either : (a b : List ℕ) (k : ℕ) → k < mostStates → has (either a b) k ≡ has a k || has b k
+has-either a b k h = rw (either-at a b (k / bitsEach) (omega arith)) (or-bit (getD a (k / bitsEach) 0) (getD b (k / bitsEach) 0) (k % bitsEach))
 
 pub has-noStates : (k : ℕ) → has noStates k ≡ false
-has-noStates k = elim (decLt (k / 64) 8) [
-  | yes h ↦ rw (getD-replicate {A = ℕ} 8 (k / 64) 0 0 h, zero-div)
-  | no h ↦ rw (List·getD-eq-default noStates 0 {n = k / 64} (omega arith), zero-div)
+has-noStates k = elim (decLt (k / bitsEach) 8) [
+  | yes h ↦ rw (getD-replicate {A = ℕ} 8 (k / bitsEach) 0 0 h, zero-div)
+  | no h ↦ rw (List·getD-eq-default noStates 0 {n = k / bitsEach} (omega arith), zero-div)
 ]
 
 -- ── one bit put to a value ──
@@ -229,7 +224,7 @@ numberPut w m true = bitOr w (2 ^ m)
 numberPut w m false = bitXor (bitOr w (2 ^ m)) (2 ^ m)
 
 unfoldable pub put : List ℕ → ℕ → Bool → List ℕ
-put s k x = set s (k / 64) (numberPut (getD s (k / 64) 0) (k % 64) x)
+put s k x = set s (k / bitsEach) (numberPut (getD s (k / bitsEach) 0) (k % bitsEach) x)
 
 number-same : (w m : ℕ) (x : Bool) → bitAt (numberPut w m x) m ≡ x
 unfolding numberPut
@@ -249,38 +244,38 @@ pub put-long : (s : List ℕ) (k : ℕ) (x : Bool) → length (put s k x) ≡ le
 unfolding put
 put-long s k x = simp length-set
 
-pub put-same : (s : List ℕ) (k : ℕ) (x : Bool) → k / 64 < length s → has (put s k x) k ≡ x
+pub put-same : (s : List ℕ) (k : ℕ) (x : Bool) → k / bitsEach < length s → has (put s k x) k ≡ x
 unfolding put
-put-same s k x h = rw getD-set-same (number-same (getD s (k / 64) 0) (k % 64) x)
+put-same s k x h = rw getD-set-same (number-same (getD s (k / bitsEach) 0) (k % bitsEach) x)
 
-pub put-other : (s : List ℕ) (k j : ℕ) (x : Bool) → k / 64 < length s → (j ≡ k → ⊥) → has (put s k x) j ≡ has s j
+pub put-other : (s : List ℕ) (k j : ℕ) (x : Bool) → k / bitsEach < length s → (j ≡ k → ⊥) → has (put s k x) j ≡ has s j
 unfolding put
-put-other s k j x h ne = elim (ℕ-discrete (j / 64) (k / 64)) [
+put-other s k j x h ne = elim (ℕ-discrete (j / bitsEach) (k / bitsEach)) [
   | yes e ↦
-      let ne' : k % 64 ≡ j % 64 → ⊥ = omega arith in
-      rw (e, getD-set-same) (number-other (getD s (k / 64) 0) (k % 64) (j % 64) x ne')
+      let ne' : k % bitsEach ≡ j % bitsEach → ⊥ = omega arith in
+      rw (e, getD-set-same) (number-other (getD s (k / bitsEach) 0) (k % bitsEach) (j % bitsEach) x ne')
   | no e ↦ rw (getD-set-other _ _ _ _ _ e)
 ]
 
 -- what code that puts a bit stores
-pub put-on : (s : List ℕ) (k : ℕ) (x : Bool) → x ≡ true → set s (k / 64) (bitOr (getD s (k / 64) 0) ((1 * 2 ^ (k % 64)) % 2 ^ 64)) ≡ put s k x
+pub put-on : (s : List ℕ) (k : ℕ) (x : Bool) → x ≡ true → set s (k / bitsEach) (bitOr (getD s (k / bitsEach) 0) ((1 * 2 ^ (k % bitsEach)) % 2 ^ 64)) ≡ put s k x
 unfolding put numberPut
 put-on s k x e = rw (e, bit-shl)
 
 pub put-off : (s : List ℕ) (k : ℕ) (x : Bool) → x ≡ false →
-    set s (k / 64) (bitXor (bitOr (getD s (k / 64) 0) ((1 * 2 ^ (k % 64)) % 2 ^ 64)) ((1 * 2 ^ (k % 64)) % 2 ^ 64)) ≡ put s k x
+    set s (k / bitsEach) (bitXor (bitOr (getD s (k / bitsEach) 0) ((1 * 2 ^ (k % bitsEach)) % 2 ^ 64)) ((1 * 2 ^ (k % bitsEach)) % 2 ^ 64)) ≡ put s k x
 unfolding put numberPut
 put-off s k x e = rw (e, bit-shl)
 
 -- the bits of s are f below i and g from i on: what a loop over the states keeps
 pub record Upto (f g : ℕ → Bool) (i : ℕ) (s : List ℕ) : Type 0 where
-  pub long : length s ≡ 8
+  pub long : length s ≡ setWidth
   pub below : (j : ℕ) → j < i → has s j ≡ f j
-  pub above : (j : ℕ) → i ≤ j → j < 512 → has s j ≡ g j
+  pub above : (j : ℕ) → i ≤ j → j < mostStates → has s j ≡ g j
 
 module _ (f g : ℕ → Bool) where
   -- upwards: bit i is f's
-  pub upto-up : (i : ℕ) (s : List ℕ) (x : Bool) → Upto f g i s → i < 512 → x ≡ f i → Upto f g (i + 1) (put s i x)
+  pub upto-up : (i : ℕ) (s : List ℕ) (x : Bool) → Upto f g i s → i < mostStates → x ≡ f i → Upto f g (i + 1) (put s i x)
   upto-up i s x u h e = record {
     long = put-long s i x ∙ u .long;
     below = λ j p. elim (ℕ-discrete j i) [
@@ -291,7 +286,7 @@ module _ (f g : ℕ → Bool) where
   }
 
   -- downwards: bit i - 1 is g's
-  pub upto-down : (i : ℕ) (s : List ℕ) (x : Bool) → Upto f g i s → 0 < i → i ≤ 512 → x ≡ g (i - 1) → Upto f g (i - 1) (put s (i - 1) x)
+  pub upto-down : (i : ℕ) (s : List ℕ) (x : Bool) → Upto f g i s → 0 < i → i ≤ mostStates → x ≡ g (i - 1) → Upto f g (i - 1) (put s (i - 1) x)
   upto-down i s x u z h e = record {
     long = put-long s (i - 1) x ∙ u .long;
     below = λ j p. put-other s (i - 1) j x (rw (u .long) (omega arith)) (λ r. omega arith) ∙ u .below j (omega arith);

@@ -1,5 +1,6 @@
 -- Texts and their values, proved by computation. Section "Day file", **Value**; section "On both sides".
 use mathlib.Core.Path.{_≡_, refl}
+use mathlib.Core.Bool.{true, false}
 use mathlib.Core.List.{List, [], _∷_, _++_, map}
 use mathlib.Core.Option.{Option, none, some}
 use Prim.Native.Nat.{ℕ}
@@ -8,6 +9,7 @@ use lib.ListN.{replicate}
 use Rattle.lists.specs.Choice.{pick}
 use Rattle.rules.specs.Value.{
   Value,
+  isOut,
   no-text,
   no-number,
   out-of-range,
@@ -120,6 +122,14 @@ unfolding worth
 range-ends = refl
 
 -- a node's value: no text gives none, and an empty one is no number
-pub of-nodes : map valueOf (none ∷ some [] ∷ some (55 ∷ []) ∷ []) ≡ no-text ∷ no-number ∷ number (pos 7) ∷ []
-unfolding worth valueOf
+pub of-nodes : map (valueOf textValue) (none ∷ some [] ∷ some (55 ∷ []) ∷ []) ≡ no-text ∷ no-number ∷ number (pos 7) ∷ []
+unfolding worth
 of-nodes = refl
+
+-- as its book reads it: here every text is out of range, and no text is none
+pub read-so : map (valueOf (λ s. out-of-range)) (none ∷ some (55 ∷ []) ∷ []) ≡ no-text ∷ out-of-range ∷ []
+read-so = refl
+
+-- of the values only one is out of range
+pub values-out : map isOut (no-text ∷ no-number ∷ out-of-range ∷ number (pos 0) ∷ []) ≡ false ∷ false ∷ true ∷ false ∷ []
+values-out = refl

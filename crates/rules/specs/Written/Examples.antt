@@ -6,7 +6,8 @@ use mathlib.Core.Option.{Option, none, some}
 use Prim.Native.Nat.{ℕ, zero, suc}
 use lib.ListN.{length, replicate}
 use Rattle.lists.specs.Choice.{pick}
-use Rattle.rules.specs.Value.{stripStart, stripBefore, stripEnd, digitsFrom, someDigits, wholeNumber, textValue}
+use Rattle.rules.specs.Book.{Meaning}
+use Rattle.rules.specs.Value.{out-of-range, stripStart, stripBefore, stripEnd, digitsFrom, someDigits, wholeNumber, textValue}
 use Rattle.rules.specs.Tree.{Forest, childless, tree, Content}
 use Rattle.rules.specs.Message.{Event, start, end, text}
 use Rattle.rules.specs.Written.{
@@ -19,6 +20,7 @@ use Rattle.rules.specs.Written.{
   hasElement,
   isChildless,
   textFits,
+  inRangeFor,
   isNone,
   childFits,
   shaped,
@@ -66,12 +68,25 @@ childless-only = refl
 pub none-only : map isNone (none ∷ some [] ∷ seven ∷ []) ≡ true ∷ false ∷ false ∷ []
 none-only = refl
 
--- "length (1 byte)": 255 bytes at most; "27 whole number out of range"
+-- "length (1 byte)": 255 bytes at most
 pub texts-fit : map textFits (none ∷ some [] ∷ some (replicate 255 97) ∷ some (replicate 256 97) ∷
-    some (replicate 9 57) ∷ some (replicate 10 57) ∷ [])
-    ≡ true ∷ true ∷ true ∷ false ∷ true ∷ false ∷ []
-unfolding textValue wholeNumber someDigits digitsFrom stripStart stripBefore stripEnd pick
+    some (replicate 10 57) ∷ [])
+    ≡ true ∷ true ∷ true ∷ false ∷ true ∷ []
 texts-fit = refl
+
+-- a book without filters, and one to which every text is out of range
+abbrev pub plain : Meaning
+plain = record { states = []; reads = textValue }
+
+abbrev pub deaf : Meaning
+deaf = record { states = []; reads = λ s. out-of-range }
+
+-- "27 whole number out of range", as the book reads it
+pub texts-ranged : map (inRangeFor plain) (none ∷ some [] ∷ some (replicate 256 97) ∷ some (replicate 9 57) ∷
+    some (replicate 10 57) ∷ []) ++ map (inRangeFor deaf) (none ∷ some [] ∷ [])
+    ≡ true ∷ true ∷ true ∷ true ∷ false ∷ true ∷ false ∷ []
+unfolding textValue wholeNumber someDigits digitsFrom stripStart stripBefore stripEnd pick
+texts-ranged = refl
 
 -- the last child's label, after no child: "1 to 32,767 are element names, 32,769 to 65,535 attribute names"
 pub labels-fit : map (λ (x : ℕ). childFits childless x none childless) (0 ∷ 1 ∷ 32767 ∷ 32768 ∷ 32769 ∷ 65535 ∷
@@ -117,15 +132,16 @@ nested zero = childless
 nested (suc n) = tree childless 1 none (nested n)
 
 -- room for two open starts: each child fits, the texts fit, and so at every depth
-pub shapes : map (shaped 2) (
+pub shapes : map (shaped plain 2) (
     childless ∷ nested 1 ∷ nested 2 ∷ nested 3 ∷
     and-child attributed 2 none ∷ and-child (and-child childless 2 none) 32769 none ∷
     tree (nested 3) 1 none childless ∷ tree (nested 2) 1 none (nested 1) ∷
     and-child childless 2 (some (replicate 10 57)) ∷
     and-child (and-child childless 2 (some (replicate 10 57))) 2 none ∷
     tree childless 1 none (and-child childless 2 (some (replicate 10 57))) ∷
-    tree childless 1 none (and-child childless 0 none) ∷ [])
-    ≡ true ∷ true ∷ true ∷ false ∷ true ∷ false ∷ false ∷ true ∷ false ∷ false ∷ false ∷ false ∷ []
+    tree childless 1 none (and-child childless 0 none) ∷ and-child childless 2 (some (replicate 256 97)) ∷ [])
+    ++ map (shaped deaf 2) (nested 1 ∷ tree (and-child childless 2 seven) 1 none childless ∷ tree childless 1 none (and-child childless 2 seven) ∷ [])
+    ≡ true ∷ true ∷ true ∷ false ∷ true ∷ false ∷ false ∷ true ∷ false ∷ false ∷ false ∷ false ∷ false ∷ true ∷ false ∷ false ∷ []
 unfolding shaped hasElement pick textValue wholeNumber someDigits digitsFrom stripStart stripBefore stripEnd
 shapes = refl
 
@@ -139,10 +155,10 @@ one-element = refl
 abbrev pub holding : Option (List ℕ) → Forest → Content
 holding t f = record { text = t; children = f }
 
-pub messages-shaped : map messageShaped (holding none (nested 1) ∷ holding seven (nested 1) ∷ holding none childless ∷
+pub messages-shaped : map (messageShaped plain) (holding none (nested 1) ∷ holding seven (nested 1) ∷ holding none childless ∷
     holding none attributed ∷
     holding none (and-child (nested 1) 1 none) ∷ holding none (nested 64) ∷ holding none (nested 65) ∷
-    holding none (and-child childless 0 none) ∷ [])
-    ≡ true ∷ false ∷ false ∷ false ∷ false ∷ true ∷ false ∷ false ∷ []
+    holding none (and-child childless 0 none) ∷ []) ++ map (messageShaped deaf) (holding none (and-child childless 1 seven) ∷ [])
+    ≡ true ∷ false ∷ false ∷ false ∷ false ∷ true ∷ false ∷ false ∷ false ∷ []
 unfolding messageShaped oneElement shaped hasElement pick
 messages-shaped = refl

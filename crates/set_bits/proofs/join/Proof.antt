@@ -1,16 +1,15 @@
 use Prim.Native.Nat.{_-_}
+use Rattle.rules.specs.Sets.{setWidth}
 use Rattle.set_bits.specs.Join.{Joining, join-laws}
 use borrow.Author.Needs.{needs}
 use Rattle.set_bits.proofs.join.Statement.{statement}
 use Rattle.set_bits.proofs.join.Tie as tie
-use Rattle.set_bits.proofs.join.Reads as reads
-use Rattle.set_bits.proofs.join.Lts as lts
 
 abbrev Inv-loop : tie.InvT-loop
 Inv-loop set₀ other i₀ set i = Joining set₀ other set i
 
 abbrev μ-loop : tie.MeasureT-loop
-μ-loop set₀ other i₀ set i = 8 - i
+μ-loop set₀ other i₀ set i = setWidth - i
 
 pub join-spec : {M : Type 1} → statement M
 join-spec =

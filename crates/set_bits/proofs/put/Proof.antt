@@ -2,8 +2,6 @@ use Rattle.rules.specs.Sets.Laws.{put-on, put-off}
 use borrow.Author.Needs.{needs}
 use Rattle.set_bits.proofs.put.Statement.{statement}
 use Rattle.set_bits.proofs.put.Tie as tie
-use Rattle.set_bits.proofs.put.Reads as reads
-use Rattle.set_bits.proofs.put.Lts as lts
 
 pub put-spec : {M : Type 1} → statement M
 put-spec =

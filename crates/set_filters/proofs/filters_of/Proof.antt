@@ -3,12 +3,6 @@ use Rattle.set_filters.specs.Filters.{Rooting, root-laws}
 use borrow.Author.Needs.{needs}
 use Rattle.set_filters.proofs.filters_of.Statement.{statement}
 use Rattle.set_filters.proofs.filters_of.Tie as tie
-use Rattle.set_filters.proofs.filters_of.Reads as reads
-use Rattle.set_filters.proofs.filters_of.Lts as lts
-use Rattle.set_bits.proofs.has.Reads as has-reads
-use Rattle.book_contents.proofs.body_size.Reads as body-size-reads
-use Rattle.book_contents.proofs.filter_count.Reads as filter-count-reads
-use Rattle.set_filters.proofs.flag.Reads as flag-reads
 
 abbrev Inv-loop : tie.InvT-loop
 Inv-loop book set f r₀ first₀ k₀ r first k = Rooting book set f r first k

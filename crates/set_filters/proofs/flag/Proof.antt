@@ -2,8 +2,6 @@ use Rattle.set_filters.specs.Filters.{flag-laws}
 use borrow.Author.Needs.{needs}
 use Rattle.set_filters.proofs.flag.Statement.{statement}
 use Rattle.set_filters.proofs.flag.Tie as tie
-use Rattle.set_filters.proofs.flag.Reads as reads
-use Rattle.set_filters.proofs.flag.Lts as lts
 
 pub flag-spec : {M : Type 1} → statement M
 flag-spec = tie.close (tie.spec (λ c. search needs) (λ c. search (flag-laws, needs)) (λ c. search (flag-laws, needs)))

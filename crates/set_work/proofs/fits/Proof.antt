@@ -2,8 +2,6 @@ use Rattle.set_work.specs.OneState.{fits-laws}
 use borrow.Author.Needs.{needs}
 use Rattle.set_work.proofs.fits.Statement.{statement}
 use Rattle.set_work.proofs.fits.Tie as tie
-use Rattle.set_work.proofs.fits.Reads as reads
-use Rattle.set_work.proofs.fits.Lts as lts
 
 pub fits-spec : {M : Type 1} → statement M
 fits-spec = tie.close (tie.spec (λ c. search (fits-laws, needs)) (λ c. search (fits-laws, needs)) (λ c. search (fits-laws, needs)))
