@@ -1,20 +1,19 @@
 -- The pass over the messages, message by message. Section "Questions and the memory".
-use mathlib.Core.Path.{_≡_, refl, sym, _∙_, ap, ap₂, subst}
-use mathlib.Core.Bool.{Bool, true, false}
+use mathlib.Core.Path.{_≡_, refl, sym, _∙_, ap}
 use mathlib.Core.List.{List, [], _∷_, _++_, append-assoc}
-use Prim.Native.Nat.{ℕ, zero, suc, _+_, _-_, _*_, _<_, _≤_}
+use Prim.Native.Nat.{ℕ, suc, _+_, _-_, _*_, _<_, _≤_}
 use native.Mathlib.Numerals.{add-one}
 use native.Mathlib.Omega.{arith}
 use native.Mathlib.Decide.{ℕ-discrete}
 use lib.Dec.{eqb}
-use lib.ListN.{length, getD, take, drop, set, replicate, length-append, length-drop, drop-of-length-le}
-use lib.Seq.{take-at, drop-at, drop-drop, drop-cons, set-at, length-take-le, set-split, take-suc, ext-getD}
+use lib.ListN.{length, take, drop, set, replicate, length-append}
+use lib.Seq.{take-at, drop-at, drop-drop}
 use borrow.Author.Tests.{eq-eqb, ne-eqb}
 use denote.Ref.{RefT}
 use denote.Triple.Both.{Both}
 use Rattle.lists.specs.Choice.{pick}
-use Rattle.lists.specs.Parts.{part, patch}
-use Rattle.lists.specs.Parts.Laws.{patch-long, part-back}
+use Rattle.lists.specs.Parts.{patch}
+use Rattle.lists.specs.Parts.Laws.{part-back}
 use Rattle.rules.specs.Book.{bookRefusal, statesOf, meaningOf}
 use Rattle.rules.specs.DayFile.{mostDayBytes, messageCount, messageLength, bytesBefore, messageBody, dayRefusal}
 use Rattle.rules.specs.Match.{filtersWhere}
@@ -33,7 +32,7 @@ use Rattle.memory_ask.specs.declared.Counts.{Counts}
 use Rattle.day_pass.specs.declared.Row.{Row}
 use Rattle.memory_ask.specs.Ask.{carriedIn, countMost}
 use Rattle.message_levels.specs.Level.{setAt}
-use Rattle.lists.specs.Lending.{was, left}
+use Rattle.lists.specs.Lending.{left}
 
 abbrev pub lentOf : List ℕ → List ℕ → List ℕ → List ℕ → List ℕ → Lent
 lentOf book day memory answers workspace = record { book = book; day = day; memory = memory; answers = answers; workspace = workspace }

@@ -1,21 +1,21 @@
 -- A law for each way through the engine's calls.
 use mathlib.Core.Path.{_≡_, refl, sym, ap, _∙_}
-use mathlib.Core.Bool.{Bool, true, false, _||_}
+use mathlib.Core.Bool.{true, false, _||_}
 use mathlib.Core.List.{List, [], _∷_, _++_}
 use Prim.Native.Nat.{ℕ, zero, suc, _+_, _-_, _*_, _<_, _≤_}
 use native.Mathlib.Nat.{sub-zero}
 use native.Mathlib.Omega.{arith}
-use lib.Dec.{eqb, ltb, leb}
+use lib.Dec.{eqb, leb}
 use lib.ListN.{length, take}
-use borrow.Author.Tests.{eq-eqb, ne-eqb, eqb-true, lt-ltb, le-ltb, ltb-false, leb-false}
+use borrow.Author.Tests.{eq-eqb, ne-eqb, lt-ltb, le-ltb, ltb-false, leb-false}
 use Rattle.lists.specs.Choice.{pick}
-use Rattle.lists.specs.Checks.{Check, firstOf}
+use Rattle.lists.specs.Checks.{firstOf}
 use Rattle.lists.specs.Choice.Laws.{pick-true, pick-false, neither}
 use Rattle.lists.specs.Checks.Laws.{first-fails, first-passes, first-end, first-zero, first-join}
 use Rattle.rules.specs.Book.{bookChecks, bookRefusal}
 use Rattle.rules.specs.DayFile.{messageCount, dayChecks, dayRefusal}
 use Rattle.rules.specs.Memory.{slotsLent}
-use Rattle.rules.specs.Run.{rowWidth, workspaceWidth, Lent, Returned, lentChecks, runChecks, runRefusal, refusedRun, passDay, atFirst, run}
+use Rattle.rules.specs.Run.{rowWidth, workspaceWidth, Lent, lentChecks, runChecks, runRefusal, refusedRun, passDay, run}
 use Rattle.rules.specs.Run.Laws.{no-zero, run-refused, run-accepted}
 use Rattle.rules.specs.Calls.{countLimit, counts, countChecks, passRefusal, passFrom}
 use Rattle.rules.specs.Calls as rules

@@ -4,7 +4,6 @@
 ghost use mathlib.Core.Path.{_≡_};
 ghost use Prim.Native.Nat.{_≤_};
 ghost use lib.ListN.{length};
-ghost use Rattle.lists.specs.Lending.{was, left};
 ghost use Rattle.rules.specs.Run.{runRefusal, passDay};
 ghost use Rattle.rules.specs.Calls.{counts, passRefusal};
 ghost use Rattle.rules.specs.Promise.{lent, RunPromise, PassPromise};

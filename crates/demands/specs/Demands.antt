@@ -8,14 +8,14 @@
 -- tests/believed.py follows the names, and counts.
 use mathlib.Core.{Path._≡_, Path.refl, Path.sym, Path._∙_, Path.ap, Path.ap₂, Bool.Bool, Bool.true, Logic._↔_, List.List, List.[], List._++_}
 use Prim.Native.Nat.{ℕ, _+_, _*_, _<_}
-use lib.ListN.{length, getD, drop, replicate}
+use lib.ListN.{length, drop, replicate}
 use Rattle.lists.specs.Checks.{FirstToFail}
 use Rattle.rules.specs.{State.State, Book.filterCount, Book.statesBefore, Book.statesOf, Book.Meaning, Book.meaningOf, DayFile.messageCount, DayFile.messageBody}
 use Rattle.rules.specs.{Tree.Content, Match.matches, Match.acceptedFilters, Match.MatchRule, Message.Event, MessageTable.rootAlone, MessageTable.opensAfter, MessageTable.messageRows}
 use Rattle.rules.specs.{Written.written, Written.messageShaped, Written.AreBytes, Written.writtenEvents, Written.IsMessage, Written.Begins, Written.Stuck}
 use Rattle.rules.specs.{Sets.bitAt, Sets.Question, Sets.either, Memory.slotWidth, Memory.FirstToAsk, Memory.slotAnswer, Memory.slotsWritten, Memory.Kept, Memory.ask}
 use Rattle.rules.specs.{Pass.Carried, Pass.asking, Pass.passTo, Pass.passQuestionsTo, Pass.afterAsking, Run.rowWidth, Run.workspaceWidth, Run.Lent, Run.Returned, Run.runChecks, Run.run, Run.withMemory, Promise.RunPromise, Promise.one-run}
-use Rattle.rules.specs.{Asked.readTree, Asked.messageRow, Asked.notKept, Asked.HeldRight, Asked.nodesTo, Asked.dayNodes}
+use Rattle.rules.specs.{Asked.messageRow, Asked.notKept, Asked.HeldRight, Asked.nodesTo, Asked.dayNodes}
 use Rattle.rules.specs.Pass.AnySlots.{pass-asks, pass-count}
 use Rattle.rules.specs.ASmallDay as Small
 use Rattle.demands.specs.Words.{MessageAnswered, rowOf, refusalOf, placeFor, filtersOf, meaning, rootOf, Permuted, C, questions, keptQuestions, smallOne, smallTwo, smallRenamed}

@@ -12,7 +12,7 @@ use Rattle.rules.specs.Message.{Level}
 use Rattle.rules.specs.Sets.{setWidth, noStates, either}
 use Rattle.rules.specs.Sets.Laws.{either-long}
 use Rattle.rules.specs.Memory.{questionWidth, questionIn}
-use Rattle.rules.specs.Run.{levelWidth, levels, workspaceWidth}
+use Rattle.rules.specs.Run.{levelWidth, workspaceWidth}
 use Rattle.message_levels.specs.Level.{labelPlace, stagePlace, levelAt, withLevel, HasLevel, labelIn, stageIn, setAt, questionAt, levelOf, opened, staged, joined, openedAt, stagedAt, joinedAt, OneLevel}
 
 -- ── a level's numbers stay as many ──

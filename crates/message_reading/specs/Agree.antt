@@ -14,8 +14,8 @@ use Rattle.lists.specs.Parts.{part}
 use Rattle.lists.specs.Checks.Laws.{first-fails, first-passes, first-end}
 use Rattle.rules.specs.Book.{Meaning, outOfRange}
 use Rattle.rules.specs.Bytes.{le2}
-use Rattle.rules.specs.State.{State, attribute}
-use Rattle.rules.specs.Message.{Event, start, end, text, bad, got, labelled, texted, Level, Reading, startRefusal, textRefusal, endRefusal, stageAfter, Next, refused, on, unless, onStart, onText, onEnd, shutInto}
+use Rattle.rules.specs.State.{attribute}
+use Rattle.rules.specs.Message.{Event, text, bad, got, labelled, texted, Level, Reading, startRefusal, textRefusal, endRefusal, stageAfter, Next, refused, on, unless, onStart, onText, onEnd, shutInto}
 use Rattle.rules.specs.Sets.{either, leavesOf, noStates}
 use Rattle.rules.specs.Memory.{questionIn}
 use Rattle.rules.specs.Pass.{Carried, askNext, asking}

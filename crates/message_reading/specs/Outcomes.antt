@@ -10,8 +10,7 @@ use borrow.Author.Tests.{eqb-true}
 use Rattle.lists.specs.Choice.{pick}
 use Rattle.lists.specs.Choice.Laws.{pick-cases}
 use Rattle.lists.specs.Checks.Laws.{first-fails, first-passes, first-end}
-use Rattle.rules.specs.Book.{Meaning, outOfRange}
-use Rattle.rules.specs.State.{State}
+use Rattle.rules.specs.Book.{Meaning}
 use Rattle.rules.specs.Message.{Outcome, placeOf, outcome, events, begin, message, lastRefusal}
 use Rattle.rules.specs.Sets.{noStates}
 use Rattle.rules.specs.Pass.{Carried, asking, passMessage}

@@ -13,8 +13,8 @@ use Rattle.lists.specs.Parts.{part}
 use Rattle.lists.specs.Choice.Laws.{pick-cases}
 use Rattle.rules.specs.Book.{Meaning, outOfRange}
 use Rattle.rules.specs.Bytes.{le2}
-use Rattle.rules.specs.State.{State, attribute}
-use Rattle.rules.specs.Message.{Event, start, end, text, bad, got, labelled, texted, firstEvent, startRefusal, stageAfter, refused, on, outcome, onEvent, events}
+use Rattle.rules.specs.State.{attribute}
+use Rattle.rules.specs.Message.{Event, start, end, text, bad, got, labelled, texted, firstEvent, startRefusal, stageAfter, outcome, onEvent, events}
 use Rattle.rules.specs.Sets.{leavesOf, Question}
 use Rattle.rules.specs.Memory.{Kept, questionIn, ask}
 use Rattle.rules.specs.Pass.{asking}

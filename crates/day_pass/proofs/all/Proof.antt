@@ -3,10 +3,6 @@ use borrow.Author.Needs.{needs}
 use Prim.Native.Nat.{_-_}
 use Rattle.day_pass.proofs.all.Statement.{statement}
 use Rattle.day_pass.proofs.all.Tie as tie
-use Rattle.day_pass.proofs.all.Reads as reads
-use Rattle.day_pass.proofs.all.Lts as lts
-use Rattle.day_check.proofs.message_count.Reads as message-count-reads
-use Rattle.day_pass.proofs.one.Reads as one-reads
 
 abbrev Inv-loop : tie.InvT-loop
 Inv-loop book day plan index₀ memory₀ answers₀ workspace₀ count c₀ k₀ index memory answers workspace c k =

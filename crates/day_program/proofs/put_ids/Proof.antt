@@ -2,9 +2,6 @@ use borrow.Author.Needs.{needs}
 use Prim.Native.Nat.{_≤_, _-_}
 use Rattle.day_program.proofs.put_ids.Statement.{statement}
 use Rattle.day_program.proofs.put_ids.Tie as tie
-use Rattle.day_program.proofs.put_ids.Reads as reads
-use Rattle.day_program.proofs.put_ids.Lts as lts
-use Rattle.day_program.proofs.put_id.Reads as put-id-reads
 
 abbrev Inv-loop : tie.InvT-loop
 Inv-loop book filters k₀ k = k ≤ 64

@@ -2,9 +2,6 @@ use borrow.Author.Needs.{needs}
 use Prim.Native.Nat.{_≤_, _-_}
 use Rattle.day_program.proofs.put_rows.Statement.{statement}
 use Rattle.day_program.proofs.put_rows.Tie as tie
-use Rattle.day_program.proofs.put_rows.Reads as reads
-use Rattle.day_program.proofs.put_rows.Lts as lts
-use Rattle.day_program.proofs.put_row.Reads as put-row-reads
 
 abbrev Inv-loop : tie.InvT-loop
 Inv-loop book answers count k₀ k = k ≤ count

@@ -2,11 +2,6 @@ use Rattle.day_run.specs.Laws.{plan-lent}
 use borrow.Author.Needs.{needs}
 use Rattle.day_run.proofs.pass_with.Statement.{statement}
 use Rattle.day_run.proofs.pass_with.Tie as tie
-use Rattle.day_run.proofs.pass_with.Reads as reads
-use Rattle.day_run.proofs.pass_with.Lts as lts
-use Rattle.memory_index.proofs.index_all.Reads as index-all-reads
-use Rattle.day_pass.proofs.pass.Reads as pass-reads
-use Rattle.book_planner.proofs.make.Reads as make-reads
 
 pub pass-with-spec : {M : Type 1} → statement M
 pass-with-spec =

@@ -3,8 +3,6 @@ use lib.ListN.{length}
 use borrow.Author.Needs.{needs}
 use Rattle.lists.proofs.clear.Statement.{statement}
 use Rattle.lists.proofs.clear.Tie as tie
-use Rattle.lists.proofs.clear.Reads as reads
-use Rattle.lists.proofs.clear.Lts as lts
 use Rattle.lists.specs.Parts.Clearing.{Clearing, clear-laws}
 
 abbrev Inv-loop : tie.InvT-loop

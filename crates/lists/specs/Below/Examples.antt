@@ -1,8 +1,8 @@
 -- The numbers below n, by computation.
 use mathlib.Core.Path.{_≡_, refl}
-use mathlib.Core.Bool.{Bool, true, false, _||_}
-use mathlib.Core.List.{List, [], _∷_, map}
-use Prim.Native.Nat.{ℕ, zero, suc, _+_}
+use mathlib.Core.Bool.{true, false, _||_}
+use mathlib.Core.List.{[], _∷_, map}
+use Prim.Native.Nat.{_+_}
 use lib.Dec.{eqb}
 use Rattle.lists.specs.Below.{someBelow, upTo, bit, flags}
 

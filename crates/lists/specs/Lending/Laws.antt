@@ -1,7 +1,6 @@
 -- `was` looks at the moment when the call began, `left` at the moment when it ended.
 use mathlib.Core.Path.{_≡_, refl}
 use denote.Ref.{RefT, now}
-use denote.Triple.Both.{Both}
 use Rattle.lists.specs.Lending.{was, left}
 
 pub was-entry : {X : Type 0} (e x : RefT X) → was (record { entry = e; exit = x }) ≡ now e

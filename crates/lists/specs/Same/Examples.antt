@@ -1,8 +1,7 @@
 -- Lists that are the same and lists that are not, by computation.
 use mathlib.Core.Path.{_≡_, refl}
-use mathlib.Core.Bool.{Bool, true, false}
-use mathlib.Core.List.{List, [], _∷_, map}
-use Prim.Native.Nat.{ℕ}
+use mathlib.Core.Bool.{true, false}
+use mathlib.Core.List.{[], _∷_, map}
 use Rattle.lists.specs.Same.{sameList}
 
 -- no list, a longer one, a shorter one, another first number, another last, the same

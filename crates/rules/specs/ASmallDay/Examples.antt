@@ -1,9 +1,7 @@
 -- The paper's own examples, proved of the definitions by computation. Sections "A small day, whole" and "On both sides".
 use mathlib.Core.Path.{_≡_, refl}
-use mathlib.Core.Bool.{Bool, true, false}
 use mathlib.Core.List.{List, [], _∷_, _++_, map}
-use Prim.Native.Nat.{ℕ, zero, suc, _+_, _-_, _*_}
-use lib.Dec.{eqb}
+use Prim.Native.Nat.{ℕ, _+_, _-_, _*_}
 use lib.ListN.{length, take, drop, replicate}
 use Rattle.lists.specs.Choice.{pick}
 use Rattle.lists.specs.Below.{upTo, someBelow, flags}
@@ -16,13 +14,12 @@ use Rattle.rules.specs.Book.{filterCount, idOf, bodyStart, bodySize, sta
 use Rattle.rules.specs.DayFile.{messageCount, messageStart, messageLength, bytesBefore, messageBody, dayOff, messagesAstray}
 use Rattle.rules.specs.Value.{stripStart, stripBefore, stripEnd, digitsFrom, someDigits, wholeNumber, textValue, valueOf}
 use Rattle.rules.specs.Match.{settle, someChild, matches, filtersWhere, acceptedFilters}
-use Rattle.rules.specs.Message.{Outcome, firstEvent, startRefusal, textRefusal, endRefusal, lastRefusal, events, message}
-use Rattle.rules.specs.Tree.{Content, Node}
+use Rattle.rules.specs.Message.{firstEvent, startRefusal, textRefusal, endRefusal, lastRefusal, events, message}
 use Rattle.rules.specs.Sets.{testEach, setOf, noStates, either, leavesOf, completed, workOut, Question}
-use Rattle.rules.specs.Memory.{slotQuestion, slotAnswer, slotsLent, Kept, firstSlot, keep, replyBy, ask}
-use Rattle.rules.specs.Pass.{Carried, passMessage, answerRow, passTo}
-use Rattle.rules.specs.Run.{Lent, Returned, runRefusal, passDay, run}
-use Rattle.rules.specs.Asked.{readTree, questionOf, rightAnswer, messageQuestions, questionsTo, dayQuestions, isAmong, without, different, firstDifferent, notKept, treeRows}
+use Rattle.rules.specs.Memory.{slotWidth, slotQuestion, slotAnswer, slotsLent, firstSlot, keep, replyBy, ask}
+use Rattle.rules.specs.Pass.{passMessage, answerRow, passTo}
+use Rattle.rules.specs.Run.{workspaceWidth, Lent, Returned, runRefusal, passDay, run}
+use Rattle.rules.specs.Asked.{readTree, questionOf, messageQuestions, questionsTo, dayQuestions, isAmong, without, different, firstDifferent, notKept, treeRows}
 use Rattle.rules.specs.ASmallDay.{book, day, rangeEnds, edgeBook, edges}
 
 -- ── the run ──
@@ -38,18 +35,18 @@ abbrev pub lending : Example → Lent
 lending e = record {
   book = e .book;
   day = e .day;
-  memory = replicate (17 * e .slots + 3) 7;
+  memory = replicate (slotWidth * e .slots + 3) 7;
   answers = replicate (3 * messageCount (e .day) + 2) 9;
   workspace = replicate 652 5;
 }
 
 -- refusal and counts, the whole of the answers, the last numbers of the workspace, the memory past the filled slots
 abbrev pub shown : Returned → List ℕ
-shown g = g .refusal ∷ g .asked ∷ g .anew ∷ g .filled ∷ (g .answers ++ drop 648 (g .workspace) ++ drop (17 * g .filled) (g .memory))
+shown g = g .refusal ∷ g .asked ∷ g .anew ∷ g .filled ∷ (g .answers ++ drop (workspaceWidth - 2) (g .workspace) ++ drop (slotWidth * g .filled) (g .memory))
 
 -- what stays as it was: two answers, two numbers of the workspace behind two that are 0, the slots that are free and three numbers
 abbrev pub untouched : ℕ → List ℕ
-untouched free = 9 ∷ 9 ∷ 0 ∷ 0 ∷ 5 ∷ 5 ∷ replicate (17 * free + 3) 7
+untouched free = 9 ∷ 9 ∷ 0 ∷ 0 ∷ 5 ∷ 5 ∷ replicate (slotWidth * free + 3) 7
 
 -- the rows of the five messages: filters 10 and 30, 10 and 30, 20 and 30, 20, and refusal 24 at place 9
 abbrev pub five : List ℕ
@@ -95,7 +92,7 @@ wrongSlot = noStates ++ 2 ∷ replicate 8 full
 -- element 1 that holds an empty element 2, read from that slot: the next question asks exactly the eight full numbers
 pub wrong-answer-asked : slotQuestion
     ((passMessage (meaningOf book) (1 ∷ 1 ∷ 0 ∷ 1 ∷ 2 ∷ 0 ∷ 3 ∷ 2 ∷ 0 ∷ 3 ∷ 1 ∷ 0 ∷ [])
-    (record { asked = 0; kept = record { memory = wrongSlot ++ replicate 17 7; anew = 0; filled = 1 } })) .state .kept .memory) 1
+    (record { asked = 0; kept = record { memory = wrongSlot ++ replicate slotWidth 7; anew = 0; filled = 1 } })) .state .kept .memory) 1
     ≡ replicate 8 full ++ 1 ∷ []
 unfolding runShown
 wrong-answer-asked = refl

@@ -3,9 +3,9 @@ use mathlib.Core.Path.{_≡_, refl}
 use mathlib.Core.Bool.{Bool, true, false}
 use mathlib.Core.List.{List, [], _∷_, _++_, map}
 use mathlib.Core.Option.{Option, none, some}
-use Prim.Native.Nat.{ℕ, zero, suc}
-use lib.IntN.{ℤ, pos, negsuc}
-use lib.ListN.{length, replicate, take}
+use Prim.Native.Nat.{ℕ}
+use lib.IntN.{pos, negsuc}
+use lib.ListN.{replicate, take}
 use Rattle.lists.specs.Choice.{pick}
 use Rattle.lists.specs.Below.{upTo, flags}
 use Rattle.lists.specs.Checks.{firstOf}
@@ -37,7 +37,7 @@ use Rattle.rules.specs.Value.{
   out-of-range,
 }
 use Rattle.rules.specs.Value.Examples.{long}
-use Rattle.rules.specs.Tree.{Forest, childless, tree, Content, empty, Node}
+use Rattle.rules.specs.Tree.{Forest, childless, tree, Content, Node}
 use Rattle.rules.specs.Match.Examples.{reading}
 use Rattle.rules.specs.Match.{settle, someChild, matches, filtersWhere, acceptedFilters}
 use Rattle.rules.specs.Message.{
@@ -53,9 +53,7 @@ use Rattle.rules.specs.Message.{
 use Rattle.rules.specs.Message.Examples.{begins, says, ends, all, mark, child}
 use Rattle.rules.specs.Sets.{testEach, setOf, Question}
 use Rattle.rules.specs.Asked.{
-  shutNode,
   readTree,
-  treeRow,
   messageRow,
   treeRows,
   nodesTo,

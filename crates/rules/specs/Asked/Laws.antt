@@ -1,7 +1,7 @@
 -- The asked set of a node, built up as its message is read: from nothing, by a text, and by a child that closes.
 use mathlib.Core.Path.{_≡_, refl, sym, _∙_, ap, ap₂}
-use mathlib.Core.Bool.{Bool, true, false, _||_, _&&_, or-false}
-use mathlib.Core.List.{List, [], _∷_}
+use mathlib.Core.Bool.{Bool, false, _||_, _&&_, or-false}
+use mathlib.Core.List.{List}
 use mathlib.Core.Option.{Option, none, some}
 use Prim.Native.Nat.{ℕ, _<_, _≤_, _^_}
 use native.Mathlib.Omega.{arith}
@@ -10,7 +10,7 @@ use lib.ListN.{length, getD, getD-replicate, List·getD-eq-default}
 use Rattle.rules.specs.Book.{mostStates, Meaning}
 use Rattle.rules.specs.State.{State, TRUE, LEAF, AND, OR, NOT, STEP, fits}
 use Rattle.rules.specs.Value.{Value, no-text, valueOf}
-use Rattle.rules.specs.Tree.{Forest, childless, tree, Content, empty, Node}
+use Rattle.rules.specs.Tree.{Forest, childless, tree, Content, empty}
 use Rattle.rules.specs.Match.{testHolds, says, someChild, matches}
 use Rattle.rules.specs.Sets.{setWidth, has, setOf, either, noStates, isLeafOf, leavesOf, givesStep}
 use Rattle.rules.specs.Asked.{isAsked, rightAnswer}

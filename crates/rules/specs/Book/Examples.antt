@@ -2,10 +2,9 @@
 -- and "Refusal
 -- numbers", 1 to 7.
 use mathlib.Core.Path.{_≡_, refl}
-use mathlib.Core.Bool.{Bool, true, false}
 use mathlib.Core.List.{List, [], _∷_, _++_, map}
 use Prim.Native.Nat.{ℕ, _*_, _/_, _%_}
-use lib.IntN.{ℤ, pos, negsuc}
+use lib.IntN.{pos, negsuc}
 use lib.ListN.{length, take, drop, replicate}
 use Rattle.lists.specs.Choice.{pick}
 use Rattle.lists.specs.Parts.{part}
@@ -13,14 +12,12 @@ use Rattle.lists.specs.Below.{someBelow, upTo}
 use Rattle.lists.specs.Checks.{firstOf}
 use Rattle.rules.specs.Bytes.{signed4}
 use Rattle.rules.specs.State.{
-  Relation,
   equal,
   differs,
   below,
   atMost,
   above,
   atLeast,
-  State,
   TRUE,
   compares,
   LEAF,
@@ -51,8 +48,6 @@ use Rattle.rules.specs.Book.{
   statesOf,
   bodyAmong,
   bodyOf,
-  Part,
-  nowhere,
   partAmong,
   partOf,
 }

@@ -8,7 +8,6 @@ use native.Mathlib.Nat.{not-suc-le-zero}
 use native.Mathlib.Omega.{arith}
 use native.Mathlib.Decide.{decLt}
 use lib.Dec.{eqb, ltb}
-use lib.IntN.{ℤ}
 use lib.ListN.{length, getD, List·getD-append}
 use lib.Seq.{getD-append-add}
 use borrow.Author.Tests.{ltb-true, not-false}
@@ -17,7 +16,7 @@ use Rattle.lists.specs.Below.{upTo}
 use Rattle.lists.specs.Choice.Laws.{both}
 use Rattle.lists.specs.Below.Laws.{someBelow-each, upTo-at}
 use Rattle.rules.specs.Bytes.{le2, le4, signed4}
-use Rattle.rules.specs.State.{Relation, Test, compares, State, TRUE, LEAF, AND, OR, NOT, STEP}
+use Rattle.rules.specs.State.{Test, compares, State, TRUE, LEAF, AND, OR, NOT, STEP}
 use Rattle.rules.specs.Book.{filterCount, bodyStart, bodySize, statesBefore, isRow, leadsWell, rowAt, leadsAt, badRows, badSuccessors, relationOf, stateAt, statesOfFirst, statesOf, meaningOf}
 use Rattle.rules.specs.Tree.{Content}
 use Rattle.rules.specs.Match.{matches, MatchRule}

@@ -2,25 +2,20 @@
 -- the memory"; refusals 18
 -- and 19 are in docs/DECISIONS.md.
 use mathlib.Core.Path.{_≡_, refl}
-use mathlib.Core.Bool.{Bool, true, false}
 use mathlib.Core.List.{List, [], _∷_, _++_, map}
-use Prim.Native.Nat.{ℕ, zero, suc, _-_, _^_}
-use lib.ListN.{length, replicate, take}
-use Rattle.rules.specs.Memory.{Kept, Reply}
-use Rattle.rules.specs.Pass.{Carried}
+use Prim.Native.Nat.{ℕ, _-_, _^_, _+_}
+use lib.ListN.{replicate, take}
+use Rattle.rules.specs.Memory.{slotWidth}
 use Rattle.rules.specs.Pass.Examples.{book, day, numbers, slot}
-use Rattle.rules.specs.Run.{Lent, Returned}
+use Rattle.rules.specs.Run.{workspaceWidth, Lent}
 use Rattle.rules.specs.Run.Examples.{lending, ran, kept}
 use Rattle.rules.specs.Calls.{
-  Counts,
   counts,
   carriedFrom,
-  countChecks,
   passRefusal,
   passFrom,
   QuestionLent,
   QuestionReturned,
-  questionChecks,
   questionRefusal,
   answerQuestion,
 }
@@ -34,7 +29,7 @@ pub carries : carriedFrom (record { asked = 4; anew = 5; filled = 6 }) (7 ∷ 8 
 carries = refl
 
 -- 14: more slots filled than the two lent; 19: a count of 2^63; both: 14
-pub counts-off : map (passRefusal (lending book day 9 650)) (
+pub counts-off : map (passRefusal (lending book day 9 workspaceWidth)) (
     counts 0 0 0 ∷ counts 0 0 2 ∷ counts 0 0 3 ∷ counts (2 ^ 63 - 1) 0 0 ∷ counts (2 ^ 63) 0 0 ∷
     counts 0 (2 ^ 63 - 1) 0 ∷ counts 0 (2 ^ 63) 0 ∷ counts (2 ^ 63) 0 3 ∷ [])
     ≡ 0 ∷ 0 ∷ 14 ∷ 0 ∷ 19 ∷ 0 ∷ 19 ∷ 14 ∷ []
@@ -42,8 +37,8 @@ unfolding ran passRefusal
 counts-off = refl
 
 -- after the run's refusals
-pub after-run : map (λ (l : Lent). passRefusal l (counts 0 0 3)) (lending book day 8 650 ∷ lending book day 9 649 ∷
-    lending [] day 9 650 ∷ []) ≡ 11 ∷ 12 ∷ 1 ∷ []
+pub after-run : map (λ (l : Lent). passRefusal l (counts 0 0 3)) (lending book day 8 workspaceWidth ∷ lending book day 9 (workspaceWidth - 1) ∷
+    lending [] day 9 workspaceWidth ∷ []) ≡ 11 ∷ 12 ∷ 1 ∷ []
 unfolding ran passRefusal
 after-run = refl
 
@@ -53,13 +48,13 @@ wrong = record {
   book = book;
   day = day;
   memory = slot 4 2 40 ++
-      replicate 18 6;
+      replicate (slotWidth + 1) 6;
   answers = replicate 10 9;
-  workspace = replicate 651 5;
+  workspace = replicate (workspaceWidth + 1) 5;
 }
 
-pub passes : passFrom wrong (counts 40 30 1) ∷ passFrom (lending book day 9 650) (counts 40 30 3) ∷
-    passFrom (lending book day 8 650) (counts 40 30 0) ∷ []
+pub passes : passFrom wrong (counts 40 30 1) ∷ passFrom (lending book day 9 workspaceWidth) (counts 40 30 3) ∷
+    passFrom (lending book day 8 workspaceWidth) (counts 40 30 0) ∷ []
     ≡ record {
       refusal = 0;
       asked = 45;
@@ -67,8 +62,8 @@ pub passes : passFrom wrong (counts 40 30 1) ∷ passFrom (lending book day 9 65
       filled = 2;
       memory = slot 4 2 40 ++ (slot 40 1 16 ++ 6 ∷ []);
       answers = 0 ∷ 0 ∷ 0 ∷ 21 ∷ 6 ∷ 0 ∷ 0 ∷ 0 ∷ 0 ∷ 9 ∷ [];
-      workspace = replicate 650 0 ++ 5 ∷ [];
-    } ∷ kept 14 9 650 ∷ kept 11 8 650 ∷ []
+      workspace = replicate workspaceWidth 0 ++ 5 ∷ [];
+    } ∷ kept 14 9 workspaceWidth ∷ kept 11 8 workspaceWidth ∷ []
 unfolding ran passRefusal passFrom
 passes = refl
 

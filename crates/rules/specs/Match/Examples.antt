@@ -3,10 +3,10 @@ use mathlib.Core.Path.{_≡_, refl}
 use mathlib.Core.Bool.{Bool, true, false, _&&_}
 use mathlib.Core.List.{List, [], _∷_, _++_, map}
 use mathlib.Core.Option.{Option, none, some}
-use Prim.Native.Nat.{ℕ, zero, suc}
+use Prim.Native.Nat.{ℕ}
 use lib.Dec.{eqb}
 use lib.ListN.{length}
-use lib.IntN.{ℤ, pos, negsuc}
+use lib.IntN.{pos, negsuc}
 use Rattle.lists.specs.Choice.{pick}
 use Rattle.lists.specs.Below.{upTo, flags}
 use Rattle.rules.specs.Bytes.{signed4}
@@ -53,7 +53,6 @@ use Rattle.rules.specs.Value.{
   someDigits,
   wholeNumber,
   textValue,
-  valueOf,
 }
 use Rattle.rules.specs.Value.Examples.{long}
 use Rattle.rules.specs.Tree.{Forest, childless, tree, Content, empty}

@@ -1,7 +1,7 @@
 -- The match rule read off state kind by state kind, that any function with these laws is this one, and that a completed question is what matches.
 use mathlib.Core.Path.{_≡_, refl, sym, _∙_, ap, ap₂, fun-ext}
 use mathlib.Core.Bool.{Bool, true, false, _||_, _&&_, not}
-use mathlib.Core.List.{List, [], _∷_}
+use mathlib.Core.List.{List}
 use mathlib.Core.Option.{Option}
 use Prim.Native.Nat.{ℕ, zero, suc, _+_, _<_, _≤_}
 use native.Mathlib.Nat.{zero-add}
@@ -11,10 +11,10 @@ use Rattle.rules.specs.Book.{mostStates, Meaning}
 use Rattle.rules.specs.State.{Test, State, TRUE, LEAF, AND, OR, NOT, STEP, fits}
 use Rattle.rules.specs.Value.{Value, valueOf}
 use Rattle.rules.specs.Tree.{Forest, childless, tree, Content, Node}
-use Rattle.rules.specs.Match.{testHolds, says, settle, someChild, matches, childBy, MatchRule}
+use Rattle.rules.specs.Match.{testHolds, says, someChild, matches, childBy, MatchRule}
 use Rattle.rules.specs.Sets.{has, setOf, completes, completed, givesStep, workOut}
 use Rattle.rules.specs.Asked.{isAsked, questionOf, rightAnswer}
-use Rattle.rules.specs.Match.Settle.{Higher, Inside, Fine, settle-law, settle-past, settle-agree, says-rests}
+use Rattle.rules.specs.Match.Settle.{Higher, Inside, Fine, settle-law, settle-agree, says-rests}
 use Rattle.rules.specs.Sets.Laws.{has-setOf, setOf-agree}
 
 -- ── state kind by state kind ──

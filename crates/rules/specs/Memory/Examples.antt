@@ -1,10 +1,9 @@
 -- The slots and the inner call, proved by computation; the cap on C, of any memory of that length. Section "Questions
 -- and the memory".
 use mathlib.Core.Path.{_≡_, refl, ap}
-use mathlib.Core.Bool.{Bool, true, false}
 use mathlib.Core.List.{List, [], _∷_, _++_, map}
-use mathlib.Core.Option.{Option, none, some}
-use Prim.Native.Nat.{ℕ, zero, suc, _+_, _/_, min}
+use mathlib.Core.Option.{none, some}
+use Prim.Native.Nat.{ℕ, _+_, _/_, min}
 use lib.ListN.{length, replicate}
 use Rattle.lists.specs.Choice.{pick}
 use Rattle.lists.specs.Parts.{part, patch}
@@ -18,7 +17,6 @@ use Rattle.rules.specs.Memory.{
   questionIn,
   slotQuestion,
   slotAnswer,
-  slotOf,
   slotsWritten,
   slotsLent,
   Kept,

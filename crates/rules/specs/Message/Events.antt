@@ -3,16 +3,15 @@
 use mathlib.Core.Path.{_≡_, refl, sym, _∙_, ap, ap₂}
 use mathlib.Core.Bool.{Bool, true, false}
 use mathlib.Core.List.{List, [], _∷_, _++_, append-assoc}
-use mathlib.Core.Option.{some}
 use Prim.Native.Nat.{ℕ, zero, suc, _+_, _-_, _*_, _/_, _%_, _<_}
 use native.Mathlib.Omega.{arith}
 use lib.Dec.{eqb, ltb, leb}
-use lib.ListN.{length, getD, take, drop, length-append, take-append-drop}
+use lib.ListN.{length, take, drop, length-append, take-append-drop}
 use lib.Seq.{take-append-seam, drop-append-seam, length-take-le, drop-nil}
 use borrow.Author.Tests.{ne-eqb, leb-true, le-leb, eqb-true, lt-ltb}
 use Rattle.rules.specs.State.{labelLimit}
 use Rattle.rules.specs.Message.{Event, start, end, text, First, bad, got, firstEvent, labelled, texted, Keeper, Reading, Next, refused, on, unless, outcome, onEvent, events, startRefusal, textRefusal, endRefusal, lastRefusal}
-use Rattle.rules.specs.Written.{textLimit, writtenStart, writtenEnd, writtenText, writtenEvent, writtenEvents, AreBytes}
+use Rattle.rules.specs.Written.{textLimit, writtenEvent, writtenEvents, AreBytes}
 
 -- a label is two bytes, the length of a text one
 abbrev pub eventFits : Event → Bool

@@ -2,18 +2,12 @@
 -- and "Refusal numbers",
 -- 21 to 29: "place is the first byte of the refused event; for 29 the body length".
 use mathlib.Core.Path.{_≡_, refl}
-use mathlib.Core.Bool.{Bool, true, false}
 use mathlib.Core.List.{List, [], _∷_, _++_, map}
-use Prim.Native.Nat.{ℕ, zero, suc, _/_, _%_}
-use lib.IntN.{pos}
+use Prim.Native.Nat.{ℕ, _/_, _%_}
 use lib.ListN.{length, replicate}
 use Rattle.lists.specs.Choice.{pick}
 use Rattle.lists.specs.Checks.{firstOf}
 use Rattle.rules.specs.Value.{
-  no-text,
-  no-number,
-  out-of-range,
-  number,
   stripStart,
   stripBefore,
   stripEnd,

@@ -1,16 +1,15 @@
 -- What the refusals of an event say of the tree read so far. Section "Refusal numbers", 23 to 29.
 use mathlib.Core.Path.{_≡_, refl, sym, _∙_}
 use mathlib.Core.Bool.{Bool, true, false, _||_, _&&_, not, true≢false, false≢true}
-use mathlib.Core.List.{List, [], _∷_}
+use mathlib.Core.List.{List, []}
 use mathlib.Core.Option.{Option, none, some}
 use Prim.Native.Nat.{ℕ, suc, _<_, _≤_}
 use native.Mathlib.Omega.{arith}
 use lib.Dec.{eqb, leb, eqb·suc-zero}
 use borrow.Author.Tests.{leb-false, ltb-false, eqb-true, eqb-false, eq-eqb, lt-leb, not-true, not-false}
-use Rattle.lists.specs.Checks.{Check, firstOf}
 use Rattle.lists.specs.Below.{bit}
 use Rattle.lists.specs.Choice.Laws.{both, neither}
-use Rattle.lists.specs.Checks.Laws.{first-fails, first-passes, first-end, first-zero}
+use Rattle.lists.specs.Checks.Laws.{first-passes, first-end, first-zero}
 use Rattle.rules.specs.State.{anyAttribute, labelLimit, attribute}
 use Rattle.rules.specs.Tree.{Forest, childless}
 use Rattle.rules.specs.Message.{mostOpen, startRefusal, textRefusal, endRefusal, lastRefusal}

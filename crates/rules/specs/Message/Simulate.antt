@@ -1,6 +1,6 @@
 -- Two uses of the one reader, one the image of the other: they refuse alike, and what one reads is the image of what the other reads.
-use mathlib.Core.Path.{_≡_, refl, sym, _∙_, ap, ap₂}
-use mathlib.Core.Bool.{Bool, true, false, _||_, _&&_, not}
+use mathlib.Core.Path.{_≡_, refl, sym, _∙_, ap}
+use mathlib.Core.Bool.{Bool, true, false, _||_, not}
 use mathlib.Core.List.{List, [], _∷_, map}
 use Prim.Native.Nat.{ℕ, zero, suc, _+_, _-_}
 use native.Mathlib.Omega.{arith}
@@ -9,7 +9,7 @@ use lib.ListN.{length, length-map}
 use borrow.Author.Tests.{eqb-true}
 use Rattle.lists.specs.Checks.{firstOf}
 use Rattle.rules.specs.State.{attribute}
-use Rattle.rules.specs.Message.{Event, start, text, end, First, bad, got, firstEvent, Level, Reading, Keeper, startRefusal, textRefusal, endRefusal, lastRefusal, Next, refused, on, Outcome, stageAfter, unless, outcome, onStart, onText, shutInto, onEnd, onEvent, events, begin, message}
+use Rattle.rules.specs.Message.{Event, start, text, end, First, bad, got, firstEvent, Level, Reading, Keeper, startRefusal, textRefusal, endRefusal, Next, refused, on, Outcome, stageAfter, unless, outcome, onStart, onText, shutInto, onEnd, onEvent, events, begin, message}
 
 -- a text is accepted only in a level where nothing or attributes came
 pub text-stage : (depth stage : ℕ) (out : Bool) → textRefusal depth stage out ≡ 0 → stage ≡ 0

@@ -1,22 +1,26 @@
 -- The reader gives at each place the number that the table says, and the place is where the table says it.
-use mathlib.Core.Path.{_≡_, refl, sym, subst, _∙_, ap, ap₂}
+use mathlib.Core.Path.{_≡_, refl, sym, subst, _∙_, ap}
 use mathlib.Core.Bool.{Bool, true, false, _||_, _&&_, not, or-true, or-false, true≢false}
-use mathlib.Core.List.{List, [], _∷_, _++_}
-use mathlib.Core.Logic.{_↔_}
-use Prim.Native.Nat.{ℕ, zero, suc, _+_, _*_, _<_, _≤_}
+use mathlib.Core.List.{List, [], _∷_, map}
+use Prim.Native.Nat.{ℕ, suc, _+_, _*_}
 use native.Mathlib.Omega.{arith}
 use lib.Dec.{eqb, ltb, leb}
 use lib.ListN.{length, take}
 use borrow.Author.Tests.{eqb-true, lt-ltb, le-ltb, leb-true, leb-false, eq-eqb, ne-eqb}
 use Rattle.lists.specs.Choice.{pick}
 use Rattle.lists.specs.Parts.{part}
-use Rattle.lists.specs.Checks.{Check, firstOf, FirstToFail}
+use Rattle.lists.specs.Checks.{Check, firstOf}
 use Rattle.lists.specs.Checks.Laws.{first-zero}
 use Rattle.rules.specs.State.{attribute}
 use Rattle.rules.specs.Book.{Meaning, outOfRange}
-use Rattle.rules.specs.Message.{Event, start, text, end, First, bad, got, labelled, texted, firstEvent, Level, Reading, Keeper, startAstray, startRefusal, textRefusal, endRefusal, lastRefusal, stageAfter, Next, refused, on, unless, shutInto, onEvent, begin}
+use Rattle.rules.specs.Message.{Event, start, text, end, First, bad, got, firstEvent, Level, Reading, Keeper, startAstray, startRefusal, textRefusal, endRefusal, lastRefusal, stageAfter, on, shutInto, onEvent, begin}
 use Rattle.rules.specs.Message.Events.{sizeOf, Follows, unless-on, first-kind}
 use Rattle.rules.specs.MessageTable.{Open, Opens, rootAlone, closed, opensBy, opensAfter, atTop, startAmiss, textAmiss, endAmiss, messageRows}
+
+-- ── the order of the table ──
+pub rows-in-order : (b : Meaning) (o : Opens) (rest : List ℕ) →
+    map (λ (c : Check). c .number) (messageRows b o rest) ≡ 21 ∷ 22 ∷ 23 ∷ 24 ∷ 25 ∷ 26 ∷ 27 ∷ 28 ∷ 29 ∷ []
+rows-in-order b o rest = refl
 
 -- ── a level of the reader is an open start ──
 abbrev pub stageFor : Bool → Bool → ℕ

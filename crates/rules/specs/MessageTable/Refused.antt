@@ -8,7 +8,6 @@ use lib.ListN.{length, drop}
 use Rattle.lists.specs.Checks.{firstOf, FirstToFail}
 use Rattle.lists.specs.Checks.Laws.{given-first, first-given}
 use Rattle.rules.specs.Book.{Meaning}
-use Rattle.rules.specs.Tree.{Content, Node}
 use Rattle.rules.specs.Message.{Event, start, text, end, First, bad, got, firstEvent, Reading, Keeper, Next, refused, on, outcome, unless, onEvent, begin, events, message}
 use Rattle.rules.specs.Message.Events.{sizeOf, Follows, Splits, first-splits, events-ended, events-broken, events-follow}
 use Rattle.rules.specs.Message.Open.{Sound, event-keeps, follow-keeps, begin-sound}
@@ -18,8 +17,8 @@ use Rattle.rules.specs.Asked.{growing, readTree}
 use Rattle.rules.specs.Written.{writtenEvent, writtenEvents, AreBytes, Begins, Stuck}
 use Rattle.rules.specs.Written.Laws.{Standing}
 use Rattle.rules.specs.Written.Beginnings.{through, short, message-read, sound-begins, after-bytes, passed-or-short}
-use Rattle.rules.specs.MessageTable.{Opens, rootAlone, opensAfter, messageRows}
-use Rattle.rules.specs.MessageTable.Laws.{Stands, eventNumber, numberFirst, numberAt, number-is, stands-begin, stands-follow}
+use Rattle.rules.specs.MessageTable.{rootAlone, opensAfter, messageRows}
+use Rattle.rules.specs.MessageTable.Laws.{eventNumber, numberFirst, numberAt, number-is, stands-begin, stands-follow}
 
 -- ── a message that is read has place 0 ──
 at-none : {P S : Type 0} (r : Reading P S) (e : ℕ) → e ≡ 0 → outcome r e .place ≡ 0

@@ -5,7 +5,7 @@ use mathlib.Core.List.{List}
 use mathlib.Core.Option.{Option}
 use Prim.Native.Nat.{ℕ}
 use Rattle.rules.specs.Book.{Meaning}
-use Rattle.rules.specs.State.{State, fits}
+use Rattle.rules.specs.State.{fits}
 use Rattle.rules.specs.Value.{valueOf}
 use Rattle.rules.specs.Tree.{Forest}
 use Rattle.rules.specs.Match.{says, settle, someChild, matches, filtersWhere, acceptedFilters}

@@ -6,16 +6,14 @@ use Prim.Native.Nat.{ℕ, zero, suc, _+_}
 use native.Mathlib.Omega.{arith}
 use native.Mathlib.Nat.{add-zero}
 use lib.ListN.{length, length-append}
-use Rattle.rules.specs.State.{State}
 use Rattle.rules.specs.Book.{statesOf, Meaning, meaningOf, outOfRange}
 use Rattle.rules.specs.DayFile.{messageBody}
-use Rattle.rules.specs.Value.{textValue}
-use Rattle.rules.specs.Message.{Keeper, Outcome, message}
+use Rattle.rules.specs.Message.{Keeper, message}
 use Rattle.rules.specs.Message.Simulate.{mapOutcome, Alike, message-map}
 use Rattle.rules.specs.Sets.{either, Question}
 use Rattle.rules.specs.Memory.{Kept, ask, askAll}
 use Rattle.rules.specs.Memory.FirstC.{askAll-append, askAll-snoc}
-use Rattle.rules.specs.Pass.{Carried, asking, passMessage, Passed, passTo, inTurn, passQuestions, passQuestionsTo, afterAsking}
+use Rattle.rules.specs.Pass.{Carried, asking, passMessage, passTo, inTurn, passQuestions, passQuestionsTo, afterAsking}
 use Rattle.rules.specs.Asked.{growing, readTree, nodesTo}
 
 -- ── one message ──

@@ -1,17 +1,16 @@
 -- The pass from filled slots, proved by computation. Section "Questions and the memory".
 use mathlib.Core.Path.{_≡_, refl}
-use mathlib.Core.Bool.{Bool, true, false}
 use mathlib.Core.List.{List, [], _∷_, _++_, map}
-use Prim.Native.Nat.{ℕ, zero, suc}
-use lib.IntN.{ℤ, pos}
-use lib.ListN.{length, replicate}
+use Prim.Native.Nat.{ℕ, _+_, _*_}
+use lib.IntN.{pos}
+use lib.ListN.{replicate}
 use Rattle.lists.specs.Choice.{pick}
 use Rattle.lists.specs.Below.{upTo, flags}
 use Rattle.lists.specs.Checks.{firstOf}
 use Rattle.lists.specs.Parts.{part, patch}
 use Rattle.lists.specs.Same.{sameList}
 use Rattle.rules.specs.Bytes.{signed4}
-use Rattle.rules.specs.State.{State, TRUE, LEAF, STEP, equal, fits}
+use Rattle.rules.specs.State.{fits}
 use Rattle.rules.specs.Book.{
   filterCount,
   bodyStart,
@@ -24,7 +23,7 @@ use Rattle.rules.specs.Book.{
   meaningOf,
 }
 use Rattle.rules.specs.Book.Examples as B
-use Rattle.rules.specs.DayFile.{messageCount, messageStart, messageLength, messageBody}
+use Rattle.rules.specs.DayFile.{messageStart, messageLength, messageBody}
 use Rattle.rules.specs.DayFile.Examples.{two, entry}
 use Rattle.rules.specs.Value.{Value, number, out-of-range, stripStart, stripBefore, stripEnd, digitsFrom, someDigits, wholeNumber, textValue}
 use Rattle.rules.specs.Match.{settle, filtersWhere}
@@ -39,9 +38,9 @@ use Rattle.rules.specs.Message.{
   message,
 }
 use Rattle.rules.specs.Message.Examples.{begins, says, ends, all, mark, child}
-use Rattle.rules.specs.Sets.{testEach, setOf, either, leavesOf, completed, workOut, Question}
-use Rattle.rules.specs.Memory.{slotQuestion, slotAnswer, slotsLent, Kept, firstSlot, keep, replyBy, ask}
-use Rattle.rules.specs.Pass.{Carried, askAndJoin, passMessage, answerRow, Passed, passTo}
+use Rattle.rules.specs.Sets.{testEach, setOf, either, leavesOf, completed, workOut}
+use Rattle.rules.specs.Memory.{slotWidth, slotQuestion, slotAnswer, slotsLent, firstSlot, keep, replyBy, ask}
+use Rattle.rules.specs.Pass.{Carried, passMessage, answerRow, Passed, passTo}
 
 -- ids 7 and 8: STEP 1→1, STEP 2→2, LEAF = 7; then NOT 1, STEP 1→2, TRUE
 abbrev pub book : List ℕ
@@ -76,14 +75,14 @@ late = all (begins 1 ∷ begins 2 ∷ says (55 ∷ []) ∷ ends 2 ∷ ends 1 ∷
 -- state 1 and makes
 -- states 0 and 4 match on the root. The counts rise from what they were; the second slot is filled, and there is no
 -- third
-pub asks-each-end : passed late (carried 40 30 1 (slot 0 9 9 ++ replicate 18 6))
+pub asks-each-end : passed late (carried 40 30 1 (slot 0 9 9 ++ replicate (slotWidth + 1) 6))
     ≡ outcome 0 0 17 (carried 42 32 2 (slot 0 9 9 ++ (slot 4 2 2 ++ 6 ∷ [])))
 unfolding passed
 asks-each-end = refl
 
 -- "wrong answers and all": a slot says that 2 makes states 3 and 5 match; "the next question is asked of the set so
 -- made"
-pub wrong-answer-joined : passed late (carried 0 0 1 (slot 4 2 40 ++ replicate 17 6))
+pub wrong-answer-joined : passed late (carried 0 0 1 (slot 4 2 40 ++ replicate slotWidth 6))
     ≡ outcome 0 0 16 (carried 2 1 2 (slot 4 2 40 ++ slot 40 1 16))
 unfolding passed
 wrong-answer-joined = refl
@@ -91,13 +90,13 @@ wrong-answer-joined = refl
 -- "the answer given is joined to the parent's set as it stands": an attribute's answer stays when a text comes, and
 -- two children's answers
 -- are joined; a refused event asks none, and the question asked before it stays
-pub joined : map (λ (s : List ℕ). passed s (carried 0 0 1 (slot 0 32769 8 ++ replicate 34 6)) .state .kept .memory) (
+pub joined : map (λ (s : List ℕ). passed s (carried 0 0 1 (slot 0 32769 8 ++ replicate (2 * slotWidth) 6)) .state .kept .memory) (
     all (begins 1 ∷ mark ∷ says (55 ∷ []) ∷ ends 1 ∷ []) ∷
     all (begins 1 ∷ mark ∷ begins 2 ∷ says (55 ∷ []) ∷ ends 2 ∷ ends 1 ∷ []) ∷
     all (begins 1 ∷ begins 2 ∷ says (55 ∷ []) ∷ ends 2 ∷ ends 2 ∷ []) ∷ [])
-    ≡ (slot 0 32769 8 ++ (slot 12 1 16 ++ replicate 17 6)) ∷
+    ≡ (slot 0 32769 8 ++ (slot 12 1 16 ++ replicate slotWidth 6)) ∷
     (slot 0 32769 8 ++ (slot 4 2 2 ++ slot 10 1 17)) ∷
-    (slot 0 32769 8 ++ (slot 4 2 2 ++ replicate 17 6)) ∷ []
+    (slot 0 32769 8 ++ (slot 4 2 2 ++ replicate slotWidth 6)) ∷ []
 unfolding passed
 joined = refl
 
@@ -125,8 +124,8 @@ day = two 3 ++ (entry 26 15 ++ (entry 41 7 ++ (entry 48 15 ++ (late ++ (child ++
 abbrev pub after : List ℕ → Carried → Passed
 after rs c = record { rows = rs; carried = c }
 
-pub messages : map (passTo book day (carried 5 6 0 (replicate 34 6))) (0 ∷ 1 ∷ 2 ∷ 3 ∷ [])
-    ≡ after [] (carried 5 6 0 (replicate 34 6)) ∷
+pub messages : map (passTo book day (carried 5 6 0 (replicate (2 * slotWidth) 6))) (0 ∷ 1 ∷ 2 ∷ 3 ∷ [])
+    ≡ after [] (carried 5 6 0 (replicate (2 * slotWidth) 6)) ∷
     after (0 ∷ 0 ∷ 1 ∷ []) (carried 7 8 2 (slot 4 2 2 ++ slot 2 1 17)) ∷
     after (0 ∷ 0 ∷ 1 ∷ 21 ∷ 6 ∷ 0 ∷ []) (carried 8 9 2 (slot 4 2 2 ++ slot 2 1 17)) ∷
     after (0 ∷ 0 ∷ 1 ∷ 21 ∷ 6 ∷ 0 ∷ 0 ∷ 0 ∷ 1 ∷ []) (carried 10 9 2 (slot 4 2 2 ++ slot 2 1 17)) ∷ []

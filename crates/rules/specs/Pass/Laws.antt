@@ -7,7 +7,6 @@ use Prim.Native.Nat.{ℕ, _+_, _≤_}
 use lib.Dec.{eqb}
 use lib.ListN.{length, length-append}
 use Rattle.lists.specs.Choice.{pick}
-use Rattle.rules.specs.State.{State}
 use Rattle.rules.specs.Book.{mostStates, statesOf, Meaning, meaningOf}
 use Rattle.rules.specs.Tree.{Content, Node}
 use Rattle.rules.specs.Match.{filtersWhere, acceptedFilters}
@@ -15,7 +14,7 @@ use Rattle.rules.specs.Message.{message}
 use Rattle.rules.specs.Sets.{setWidth, either, leavesOf, completed, Question}
 use Rattle.rules.specs.Memory.{ask, askAll}
 use Rattle.rules.specs.Pass.{Carried, askAndJoin, asking, passMessage, answerRow}
-use Rattle.rules.specs.Asked.{shutNode, growing, readTree, questionOf, rightAnswer, treeRow, messageRow}
+use Rattle.rules.specs.Asked.{shutNode, growing, readTree, questionOf, rightAnswer, messageRow}
 use Rattle.rules.specs.Sets.Laws.{setOf-long}
 use Rattle.rules.specs.Match.Laws.{askedSet, completed-node, work-is-right}
 use Rattle.rules.specs.Asked.Laws.{asked-empty, asked-said, asked-shut}

@@ -14,15 +14,14 @@ use borrow.Author.Tests.{ltb-false}
 use Rattle.lists.specs.Parts.{part}
 use Rattle.lists.specs.Below.{someBelow}
 use Rattle.lists.specs.Below.Laws.{upTo-long}
-use Rattle.rules.specs.State.{State}
 use Rattle.rules.specs.Book.{mostStates, filterCount, bodySize, statesBefore, badSizes, statesOfFirst, statesOf, Meaning, meaningOf}
 use Rattle.rules.specs.DayFile.{messageCount, messageBody}
 use Rattle.rules.specs.Tree.{Node}
 use Rattle.rules.specs.Sets.{Question, workOut}
-use Rattle.rules.specs.Memory.{slotWidth, nine, slotQuestion, slotAnswer, slotsLent, slotsWritten, askAll}
+use Rattle.rules.specs.Memory.{slotWidth, nine, slotsLent, slotsWritten, askAll}
 use Rattle.rules.specs.Pass.{Passed, passMessage, answerRow, passTo}
 use Rattle.rules.specs.Run.{rowWidth, workspaceWidth, Lent, Returned, runRefusal, passDay, atFirst, run, withMemory}
-use Rattle.rules.specs.Asked.{readTree, questionOf, rightAnswer, messageQuestions, questionsTo, dayQuestions, sameQuestion, isAmong, different, firstDifferent, notKept, messageRow, nodesTo, HeldRight, dayNodes, treeRow, treeRows}
+use Rattle.rules.specs.Asked.{readTree, questionOf, messageQuestions, questionsTo, dayQuestions, sameQuestion, isAmong, different, firstDifferent, notKept, messageRow, nodesTo, HeldRight, dayNodes, treeRows}
 use Rattle.rules.specs.Run.Laws.{accepted-row, run-accepted, run-refused}
 use Rattle.rules.specs.Match.Laws.{work-is-right}
 use Rattle.rules.specs.Asked.Different.{same-eq, among-at, members}

@@ -1,9 +1,9 @@
 -- Runs refused by what is lent and one that is accepted, proved by computation. Section "Refusal numbers".
 use mathlib.Core.Path.{_≡_, refl}
-use mathlib.Core.Bool.{Bool, true, false}
 use mathlib.Core.List.{List, [], _∷_, _++_, map}
-use Prim.Native.Nat.{ℕ, zero, suc}
-use lib.ListN.{length, replicate, take}
+use Prim.Native.Nat.{ℕ, _+_, _-_}
+use lib.ListN.{replicate, take}
+use Rattle.rules.specs.Memory.{questionWidth, slotWidth}
 use Rattle.lists.specs.Below.{someBelow, flags}
 use Rattle.rules.specs.Book.{
   idOf,
@@ -31,15 +31,14 @@ use Rattle.rules.specs.Pass.Examples.{book, day, slot, carried, passed}
 use Rattle.rules.specs.Run.{
   Lent,
   Returned,
-  lentChecks,
-  runChecks,
   runRefusal,
-  refusedRun,
   passDay,
-  atFirst,
-  runBy,
   run,
   withMemory,
+  workspaceWidth,
+  rowWidth,
+  levelWidth,
+  levels,
 }
 
 -- three messages want nine answers; memory of two slots and one number
@@ -57,14 +56,18 @@ unfolding runRefusal passed someBelow idOf isRow leadsWell bookShort idsFall bad
     badSuccessors messageCount messageStart messageLength bytesBefore dayOff messagesAstray
 refusalOf l = runRefusal l
 
+-- "a slot is 17", "three 64-bit numbers for each message", "at least 650: 65 levels of ten"
+pub widths : questionWidth ∷ slotWidth ∷ rowWidth ∷ levelWidth ∷ levels ∷ workspaceWidth ∷ [] ≡ 9 ∷ 17 ∷ 3 ∷ 10 ∷ 65 ∷ 650 ∷ []
+widths = refl
+
 -- "11: fewer than 3N answer numbers lent"; "12: workspace under 650"; "649 workspace numbers are 12"; checked after
 -- the book's and the day
 -- file's, in this order
 pub refusals : map refusalOf (
-    lending book day 9 650 ∷ lending book day 10 651 ∷ lending book (0 ∷ 0 ∷ []) 0 650 ∷
-    lending book day 8 650 ∷ lending book day 0 650 ∷ lending book day 9 649 ∷ lending book day 9 0 ∷
-    lending book day 8 649 ∷
-    lending book (take 62 day) 8 649 ∷ lending book [] 9 650 ∷ lending (take 65 book) (take 62 day) 8 649 ∷
+    lending book day 9 workspaceWidth ∷ lending book day 10 (workspaceWidth + 1) ∷ lending book (0 ∷ 0 ∷ []) 0 workspaceWidth ∷
+    lending book day 8 workspaceWidth ∷ lending book day 0 workspaceWidth ∷ lending book day 9 (workspaceWidth - 1) ∷ lending book day 9 0 ∷
+    lending book day 8 (workspaceWidth - 1) ∷
+    lending book (take 62 day) 8 (workspaceWidth - 1) ∷ lending book [] 9 workspaceWidth ∷ lending (take 65 book) (take 62 day) 8 (workspaceWidth - 1) ∷
     lending [] [] 0 0 ∷ [])
     ≡ 0 ∷ 0 ∷ 0 ∷ 11 ∷ 11 ∷ 12 ∷ 12 ∷ 11 ∷ 10 ∷ 8 ∷ 5 ∷ 1 ∷ []
 unfolding refusalOf
@@ -81,7 +84,7 @@ after asked anew = record {
   filled = 2;
   memory = slot 4 2 2 ++ (slot 2 1 17 ++ 6 ∷ []);
   answers = 0 ∷ 0 ∷ 1 ∷ 21 ∷ 6 ∷ 0 ∷ 0 ∷ 0 ∷ 1 ∷ 9 ∷ [];
-  workspace = replicate 650 0 ++ 5 ∷ [];
+  workspace = replicate workspaceWidth 0 ++ 5 ∷ [];
 }
 
 -- from no filled slots; and, the pass alone, from counts 40 and 30
@@ -89,7 +92,7 @@ unfoldable pub ran : Lent → Returned
 unfolding refusalOf run passDay passTo answerRow filtersWhere flags messageBody
 ran l = run l
 
-pub accepted : ran (lending book day 10 651) ∷ passDay (lending book day 10 651) (carried 40 30 0 (replicate 35 6)) ∷
+pub accepted : ran (lending book day 10 (workspaceWidth + 1)) ∷ passDay (lending book day 10 (workspaceWidth + 1)) (carried 40 30 0 (replicate 35 6)) ∷
     [] ≡ after 5 3 ∷ after 45 33 ∷ []
 unfolding ran
 accepted = refl
@@ -106,8 +109,8 @@ kept e answers workspace = record {
   workspace = replicate workspace 5;
 }
 
-pub refused : map ran (lending book day 8 651 ∷ lending book day 10 649 ∷ lending [] day 10 651 ∷ [])
-    ≡ kept 11 8 651 ∷ kept 12 10 649 ∷ kept 1 10 651 ∷ []
+pub refused : map ran (lending book day 8 (workspaceWidth + 1) ∷ lending book day 10 (workspaceWidth - 1) ∷ lending [] day 10 (workspaceWidth + 1) ∷ [])
+    ≡ kept 11 8 (workspaceWidth + 1) ∷ kept 12 10 (workspaceWidth - 1) ∷ kept 1 10 (workspaceWidth + 1) ∷ []
 unfolding ran
 refused = refl
 

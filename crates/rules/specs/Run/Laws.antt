@@ -1,31 +1,30 @@
 -- When a run is refused and by which number; and what a refused event leaves.
-use mathlib.Core.Path.{_≡_, refl, sym, _∙_, ap}
+use mathlib.Core.Path.{_≡_, refl}
 use mathlib.Core.Bool.{Bool, true, false}
-use mathlib.Core.List.{List, [], _∷_, _++_}
-use Prim.Native.Nat.{ℕ, zero, suc, _-_, _*_, _<_}
-use native.Mathlib.Omega.{arith}
+use mathlib.Core.List.{List, [], _∷_, map}
+use Prim.Native.Nat.{ℕ, suc, _-_, _*_, _<_}
 use mathlib.Core.Logic.{_↔_}
 use lib.Dec.{ltb}
 use lib.ListN.{length}
-use Rattle.lists.specs.Checks.{Check, firstOf, rowFails, AllPass, FirstToFail}
+use Rattle.lists.specs.Checks.{Check, rowFails, AllPass, FirstToFail}
 use Rattle.lists.specs.Checks.Laws.{noZero, given-first, first-given, none-fails, all-pass, row-passes}
-use Rattle.rules.specs.Book.{mostFilters, filterCount, bookShort, idsFall, badSizes, bodiesAstray, badRows, badSuccessors, bookChecks}
-use Rattle.rules.specs.DayFile.{mostMessages, messageCount, dayOff, messagesAstray, dayChecks}
-use Rattle.rules.specs.Message.{Event, First, bad, got, firstEvent, Reading, Keeper, Next, refused, on, Outcome, outcome, onEvent, events}
-use Rattle.rules.specs.Run.{rowWidth, workspaceWidth, Lent, lentChecks, runRefusal, refusedRun, passDay, atFirst, run, runChecks}
+use Rattle.rules.specs.Book.{mostFilters, filterCount, bookShort, idsFall, badSizes, bodiesAstray, badRows, badSuccessors}
+use Rattle.rules.specs.DayFile.{mostMessages, messageCount, dayOff, messagesAstray}
+use Rattle.rules.specs.Message.{Event, bad, got, firstEvent, Reading, Keeper, refused, on, outcome, onEvent, events}
+use Rattle.rules.specs.Run.{rowWidth, workspaceWidth, Lent, runRefusal, refusedRun, passDay, atFirst, run, runChecks}
 
 -- ── the refusal table ──
--- no row is numbered 0, and row by row it says
+-- row by row it says, in this order
+pub rows-say : (l : Lent) → map {B = ℕ × Bool} (λ (c : Check). (c .number, c .fails)) (runChecks l)
+    ≡ (1, bookShort (l .book)) ∷ (2, ltb mostFilters (filterCount (l .book))) ∷ (3, idsFall (l .book)) ∷ (4, badSizes (l .book)) ∷
+    (5, bodiesAstray (l .book)) ∷ (6, badRows (l .book)) ∷ (7, badSuccessors (l .book)) ∷ (8, dayOff (l .day)) ∷
+    (9, ltb mostMessages (messageCount (l .day))) ∷ (10, messagesAstray (l .day)) ∷
+    (11, ltb (length (l .answers)) (rowWidth * messageCount (l .day))) ∷ (12, ltb (length (l .workspace)) workspaceWidth) ∷ []
+rows-say l = refl
+
+-- no row is numbered 0
 pub no-zero : (l : Lent) → noZero (runChecks l) ≡ true
 no-zero l = refl
-
-pub rows-say : (l : Lent) →
-    rowFails (runChecks l) 1 ∷ rowFails (runChecks l) 2 ∷ rowFails (runChecks l) 3 ∷ rowFails (runChecks l) 4 ∷ rowFails (runChecks l) 5 ∷ rowFails (runChecks l) 6 ∷
-    rowFails (runChecks l) 7 ∷ rowFails (runChecks l) 8 ∷ rowFails (runChecks l) 9 ∷ rowFails (runChecks l) 10 ∷ rowFails (runChecks l) 11 ∷ rowFails (runChecks l) 12 ∷ []
-    ≡ bookShort (l .book) ∷ ltb mostFilters (filterCount (l .book)) ∷ idsFall (l .book) ∷ badSizes (l .book) ∷ bodiesAstray (l .book) ∷ badRows (l .book) ∷
-    badSuccessors (l .book) ∷ dayOff (l .day) ∷ ltb mostMessages (messageCount (l .day)) ∷ messagesAstray (l .day) ∷
-    ltb (length (l .answers)) (rowWidth * messageCount (l .day)) ∷ ltb (length (l .workspace)) workspaceWidth ∷ []
-rows-say l = refl
 
 -- a run is refused by n exactly if a row with number n fails and no row before it in the table does
 pub refused-exactly : (l : Lent) (n : ℕ) → 0 < n → (runRefusal l ≡ n) ↔ FirstToFail (runChecks l) n

@@ -2,9 +2,9 @@
 use mathlib.Core.Path.{_≡_, refl}
 use mathlib.Core.Bool.{Bool, true, false, _||_}
 use mathlib.Core.List.{List, [], _∷_, _++_, map}
-use Prim.Native.Nat.{ℕ, zero, suc, _+_, _^_}
+use Prim.Native.Nat.{ℕ, _+_, _^_}
 use lib.Dec.{eqb}
-use lib.IntN.{ℤ, pos}
+use lib.IntN.{pos}
 use lib.ListN.{replicate}
 use Rattle.lists.specs.Choice.{pick}
 use Rattle.rules.specs.State.{compares, State, TRUE, LEAF, AND, OR, NOT, STEP, equal, differs, fits}
@@ -19,7 +19,6 @@ use Rattle.rules.specs.Sets.{
   setOf,
   noStates,
   either,
-  isLeafOf,
   leavesOf,
   completes,
   completed,

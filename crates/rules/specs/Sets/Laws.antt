@@ -9,7 +9,7 @@ use native.Mathlib.Omega.{arith}
 use native.Mathlib.Decide.{decLt, ℕ-discrete}
 use lib.Dec.{eqb, ltb, eqb·suc-suc}
 use lib.ListN.{length, getD, set, take, drop, length-set, length-take, getD-replicate, List·getD-eq-default}
-use lib.Seq.{ext-getD, getD-set-same, getD-set-other, getD-take, getD-drop, drop-cons, drop-length}
+use lib.Seq.{ext-getD, getD-set-same, getD-set-other, getD-take, getD-drop}
 use lib.Pow.{shr-shr, pow-pos, shl-exact}
 use lib.Bits.{bitOr, bitXor, or-shr, or-mod, or-lt, xor-shr, xor-mod}
 use borrow.Author.Tests.{eq-eqb, ne-eqb, ltb-true, ltb-false}

@@ -4,17 +4,13 @@ use mathlib.Core.Bool.{Bool, true, false}
 use mathlib.Core.List.{List, [], _∷_, _++_, map}
 use mathlib.Core.Option.{Option, none, some}
 use Prim.Native.Nat.{ℕ, zero, suc}
-use lib.ListN.{length, replicate}
+use lib.ListN.{replicate}
 use Rattle.lists.specs.Choice.{pick}
 use Rattle.rules.specs.Book.{Meaning}
 use Rattle.rules.specs.Value.{out-of-range, stripStart, stripBefore, stripEnd, digitsFrom, someDigits, wholeNumber, textValue}
 use Rattle.rules.specs.Tree.{Forest, childless, tree, Content}
-use Rattle.rules.specs.Message.{Event, start, end, text}
+use Rattle.rules.specs.Message.{start, end, text}
 use Rattle.rules.specs.Written.{
-  writtenStart,
-  writtenEnd,
-  writtenText,
-  writtenEvent,
   writtenEvents,
   written,
   hasElement,

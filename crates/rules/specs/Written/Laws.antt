@@ -6,17 +6,16 @@ use mathlib.Core.Option.{Option, none, some}
 use Prim.Native.Nat.{ℕ, _+_, _-_, _≤_}
 use native.Mathlib.Omega.{arith}
 use native.Mathlib.Nat.{add-zero}
-use lib.Dec.{ltb, eqb·suc-zero}
+use lib.Dec.{eqb·suc-zero}
 use lib.ListN.{length, length-append}
 use borrow.Author.Tests.{not-true}
 use Rattle.lists.specs.Below.{bit}
-use Rattle.lists.specs.Choice.Laws.{both}
 use Rattle.rules.specs.Book.{Meaning, outOfRange}
 use Rattle.rules.specs.State.{attribute}
 use Rattle.rules.specs.Tree.{Forest, childless, tree, Content, Node}
 use Rattle.rules.specs.Message.{mostOpen, start, end, text, Level, Reading, events, message, stageAfter, startRefusal}
 use Rattle.rules.specs.Asked.{growing, readTree}
-use Rattle.rules.specs.Written.{inRangeFor, writtenStart, writtenEnd, writtenText, written, hasElement, isChildless, textFits, isNone, shaped, oneElement, messageShaped}
+use Rattle.rules.specs.Written.{inRangeFor, writtenStart, writtenEnd, writtenText, written, hasElement, isChildless, isNone, shaped, oneElement, messageShaped}
 use Rattle.rules.specs.Message.Events.{sizeOf, events-on, events-ended}
 use Rattle.rules.specs.Written.Shape.{Shape, Whole, shape-is, whole-is, one-has, text-or-elements, holds-children}
 use Rattle.rules.specs.Message.Refusals.{stageOf, start-allowed, text-allowed, end-allowed, last-allowed}

@@ -1,6 +1,6 @@
 -- The parts of a tree's shape. Section "Day file", a message.
 use mathlib.Core.Path.{_≡_, refl}
-use mathlib.Core.Bool.{Bool, true, false, _||_, _&&_, not, or-true, true≢false, false≢true}
+use mathlib.Core.Bool.{Bool, true, false, _||_, _&&_, not, or-true, false≢true}
 use mathlib.Core.List.{List}
 use mathlib.Core.Option.{Option, none, some}
 use Prim.Native.Nat.{ℕ, _-_, _<_, _≤_}
@@ -8,7 +8,7 @@ use native.Mathlib.Omega.{arith}
 use lib.Dec.{eqb, ltb, leb}
 use borrow.Author.Tests.{leb-true, ltb-true, ne-eqb, lt-ltb, le-leb, not-true}
 use Rattle.lists.specs.Choice.{pick}
-use Rattle.lists.specs.Choice.Laws.{both, neither}
+use Rattle.lists.specs.Choice.Laws.{both}
 use Rattle.rules.specs.State.{labelLimit, anyAttribute, attribute}
 use Rattle.rules.specs.Book.{Meaning}
 use Rattle.rules.specs.Message.{mostOpen}

@@ -2,10 +2,6 @@ use borrow.Author.Needs.{needs}
 use Prim.Native.Nat.{_≤_, _-_}
 use Rattle.wrong_slot.proofs.put_part.Statement.{statement}
 use Rattle.wrong_slot.proofs.put_part.Tie as tie
-use Rattle.wrong_slot.proofs.put_part.Reads as reads
-use Rattle.wrong_slot.proofs.put_part.Lts as lts
-use Rattle.io.proofs.write_all.Reads as write-all-reads
-use Rattle.wrong_slot.proofs.put.Reads as put-reads
 
 abbrev Inv-loop : tie.InvT-loop
 Inv-loop word w from to k₀ t6 k = k ≤ to
