@@ -4,4 +4,9 @@ use Rattle.book_check.proofs.bad_sizes.Statement.{statement}
 use Rattle.book_check.proofs.bad_sizes.Tie as tie
 
 pub bad-sizes-spec : {M : Type 1} → statement M
-bad-sizes-spec = tie.close (tie.spec (λ c κs. search needs) (λ c κs. search needs) (λ c. search (sizes-is, needs)))
+bad-sizes-spec =
+    tie.close
+    (tie.spec
+    (λ c κs. search needs)  -- some-empty-requires
+    (λ c κs. search needs)  -- total-requires
+    (λ c. search (sizes-is, needs)))  -- returns

@@ -14,7 +14,8 @@ pub bodies-astray-spec : {M : Type 1} → statement M
 bodies-astray-spec =
     tie.close
     (tie.spec
-    Inv-loop μ-loop
+    Inv-loop
+    μ-loop
     (λ c κs. search needs)  -- filter-count-requires
     (λ c κs. search needs)  -- contents-end-requires
     (λ c. search (placed-none, needs))  -- loop-holds

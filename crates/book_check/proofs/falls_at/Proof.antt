@@ -4,4 +4,10 @@ use Rattle.book_check.proofs.falls_at.Statement.{statement}
 use Rattle.book_check.proofs.falls_at.Tie as tie
 
 pub falls-at-spec : {M : Type 1} → statement M
-falls-at-spec = tie.close (tie.spec (λ c κs. search needs) (λ c. search needs) (λ c κs. search needs) (λ c. search (falls-is, needs)))
+falls-at-spec =
+    tie.close
+    (tie.spec
+    (λ c κs. search needs)  -- id-of-requires
+    (λ c. search needs)  -- add-id-of
+    (λ c κs. search needs)  -- id-of-requires-2
+    (λ c. search (falls-is, needs)))  -- returns

@@ -16,7 +16,8 @@ pub ids-fall-spec : {M : Type 1} → statement M
 ids-fall-spec =
     tie.close
     (tie.spec
-    Inv-loop μ-loop
+    Inv-loop
+    μ-loop
     (λ c κs. search needs)  -- filter-count-requires
     (λ c. search (searched-none, needs))  -- loop-holds
     (λ c. search needs)  -- add-loop

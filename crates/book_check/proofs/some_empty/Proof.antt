@@ -16,7 +16,8 @@ pub some-empty-spec : {M : Type 1} → statement M
 some-empty-spec =
     tie.close
     (tie.spec
-    Inv-loop μ-loop
+    Inv-loop
+    μ-loop
     (λ c κs. search needs)  -- filter-count-requires
     (λ c. search (searched-none, needs))  -- loop-holds
     (λ c κs. search needs)  -- body-size-requires

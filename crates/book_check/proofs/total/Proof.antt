@@ -14,7 +14,8 @@ pub total-spec : {M : Type 1} → statement M
 total-spec =
     tie.close
     (tie.spec
-    Inv-loop μ-loop
+    Inv-loop
+    μ-loop
     (λ c κs. search needs)  -- filter-count-requires
     (λ c. search (summed-none, needs))  -- loop-holds
     (λ c κs. search needs)  -- body-size-requires

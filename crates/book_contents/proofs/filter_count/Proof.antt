@@ -8,4 +8,8 @@ unfolding filterCount
 returns c = search needs
 
 pub filter-count-spec : {M : Type 1} → statement M
-filter-count-spec = tie.close (tie.spec (λ c κs. search needs) returns)
+filter-count-spec =
+    tie.close
+    (tie.spec
+    (λ c κs. search needs)  -- read2-requires
+    returns)  -- returns

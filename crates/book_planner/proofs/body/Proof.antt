@@ -15,7 +15,8 @@ pub body-spec : {M : Type 1} → statement M
 body-spec =
     tie.close
     (tie.spec
-    Inv-loop μ-loop
+    Inv-loop
+    μ-loop
     (λ c. search (body-laws, needs))  -- loop-holds
     (λ c κs. search (body-laws, needs))  -- state-at-requires
     (λ c. search (body-laws, needs))  -- add-row

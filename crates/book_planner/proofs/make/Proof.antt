@@ -14,7 +14,8 @@ pub make-spec : {M : Type 1} → statement M
 make-spec =
     tie.close
     (tie.spec
-    Inv-loop μ-loop
+    Inv-loop
+    μ-loop
     (λ c κs. search (make-laws, needs))  -- filter-count-requires
     (λ c. search (make-laws, needs))  -- loop-holds
     (λ c κs. search (make-laws, needs))  -- body-size-requires

@@ -30,4 +30,4 @@ row-spec =
     (λ c κs. search needs)  -- second-requires
     (λ c κs. search needs)  -- write-requires
     (λ c. search needs)  -- same-length
-    returns)
+    returns)  -- returns

@@ -8,4 +8,8 @@ unfolding messageCount
 returns c = search needs
 
 pub message-count-spec : {M : Type 1} → statement M
-message-count-spec = tie.close (tie.spec (λ c κs. search needs) returns)
+message-count-spec =
+    tie.close
+    (tie.spec
+    (λ c κs. search needs)  -- read2-requires
+    returns)  -- returns

@@ -14,7 +14,8 @@ pub messages-astray-spec : {M : Type 1} → statement M
 messages-astray-spec =
     tie.close
     (tie.spec
-    Inv-loop μ-loop
+    Inv-loop
+    μ-loop
     (λ c κs. search needs)  -- message-count-requires
     (λ c κs. search needs)  -- entry-at-requires
     (λ c. search (placed-none, needs))  -- loop-holds

@@ -17,8 +17,8 @@ all-spec =
     (tie.spec
     Inv-loop
     μ-loop
-    (λ c κs. search (day-two, needs))
-    (λ c. search (passing-none, needs))
+    (λ c κs. search (day-two, needs))  -- message-count-requires
+    (λ c. search (passing-none, needs))  -- loop-holds
     (λ c κs. (
       record {
         reads = search needs;
@@ -31,12 +31,12 @@ all-spec =
         anew-rises = search (passing-anew, needs);
       },
       search (passing-room, needs),
-    ))
-    (λ c. search needs)
-    (λ c. search needs)
-    (λ c. search (passing-more, needs))
-    (λ c. search needs)
-    (λ c. search needs)
-    (λ c. search needs)
-    (λ c. search needs)
-    (λ c. (search (passing-all, needs), search needs)))
+    ))  -- one-requires
+    (λ c. search needs)  -- add-k
+    (λ c. search needs)  -- loop-less
+    (λ c. search (passing-more, needs))  -- loop-again
+    (λ c. search needs)  -- same-length
+    (λ c. search needs)  -- same-length-2
+    (λ c. search needs)  -- same-length-3
+    (λ c. search needs)  -- same-length-4
+    (λ c. (search (passing-all, needs), search needs)))  -- returns

@@ -7,13 +7,13 @@ pub write-row-spec : {M : Type 1} → statement M
 write-row-spec =
     tie.close
     (tie.spec
-    (λ c. search needs)
-    (λ c. search needs)
-    (λ c. search needs)
-    (λ c. search needs)
-    (λ c. search needs)
-    (λ c. search needs)
-    (λ c. search needs)
-    (λ c κs. search needs)
-    (λ c. search needs)
-    (λ c. search (row-back, needs)))
+    (λ c. search needs)  -- mul-a
+    (λ c. search needs)  -- add-copy
+    (λ c. search needs)  -- mul-copy
+    (λ c. search needs)  -- sub-copy
+    (λ c. search needs)  -- part-copy-start
+    (λ c. search needs)  -- part-copy-end
+    (λ c. search needs)  -- slice-aggregate-copy
+    (λ c κs. search needs)  -- copy-requires
+    (λ c. search needs)  -- same-length
+    (λ c. search (row-back, needs)))  -- returns

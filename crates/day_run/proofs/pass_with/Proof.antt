@@ -7,11 +7,11 @@ pub pass-with-spec : {M : Type 1} → statement M
 pass-with-spec =
     tie.close
     (tie.spec
-    (λ c κs. (search needs, search needs))
-    (λ c κs. search needs)
-    (λ c. search needs)
-    (λ c. search needs)
-    (λ c. search needs)
+    (λ c κs. (search needs, search needs))  -- make-requires
+    (λ c κs. search needs)  -- index-all-requires
+    (λ c. search needs)  -- sub-pass
+    (λ c. search needs)  -- part-pass-start
+    (λ c. search needs)  -- part-pass-end
     (λ c κs. record {
       reads = search needs;
       laid = search needs;
@@ -21,10 +21,10 @@ pass-with-spec =
       levels = search needs;
       asked-few = search needs;
       anew-few = search needs;
-    })
-    (λ c. search needs)
-    (λ c. search needs)
-    (λ c. search needs)
-    (λ c. search needs)
-    (λ c. search needs)
-    (λ c. search needs))
+    })  -- pass-requires
+    (λ c. search needs)  -- same-length
+    (λ c. search needs)  -- same-length-2
+    (λ c. search needs)  -- same-length-3
+    (λ c. search needs)  -- same-length-4
+    (λ c. search needs)  -- same-length-5
+    (λ c. search needs))  -- returns

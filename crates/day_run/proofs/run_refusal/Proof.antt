@@ -7,12 +7,12 @@ pub run-refusal-spec : {M : Type 1} → statement M
 run-refusal-spec =
     tie.close
     (tie.spec
-    (λ c κs. search needs)
-    (λ c. search (refused-book, refused-day, refused-answers, refused-levels, refused-none, needs))
-    (λ c κs. search needs)
-    (λ c. search (refused-book, refused-day, refused-answers, refused-levels, refused-none, needs))
-    (λ c κs. search (two-bytes, needs))
-    (λ c. search needs)
-    (λ c. search (refused-book, refused-day, refused-answers, refused-levels, refused-none, needs))
-    (λ c. search (refused-book, refused-day, refused-answers, refused-levels, refused-none, needs))
-    (λ c. search (refused-book, refused-day, refused-answers, refused-levels, refused-none, needs)))
+    (λ c κs. search needs)  -- check-book-requires
+    (λ c. search (refused-book, refused-day, refused-answers, refused-levels, refused-none, needs))  -- returns
+    (λ c κs. search needs)  -- check-day-requires
+    (λ c. search (refused-book, refused-day, refused-answers, refused-levels, refused-none, needs))  -- returns-2
+    (λ c κs. search (two-bytes, needs))  -- message-count-requires
+    (λ c. search needs)  -- mul-if3
+    (λ c. search (refused-book, refused-day, refused-answers, refused-levels, refused-none, needs))  -- returns-3
+    (λ c. search (refused-book, refused-day, refused-answers, refused-levels, refused-none, needs))  -- returns-4
+    (λ c. search (refused-book, refused-day, refused-answers, refused-levels, refused-none, needs)))  -- returns-5

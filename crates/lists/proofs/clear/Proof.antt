@@ -17,11 +17,11 @@ clear-spec =
     (tie.spec
     Inv-loop
     μ-loop
-    (λ c. search (clear-laws, needs))
-    (λ c. search (clear-laws, needs))
-    (λ c. search (clear-laws, needs))
-    (λ c. search (clear-laws, needs))
-    (λ c. search (clear-laws, needs))
-    (λ c. search (clear-laws, needs))
-    (λ c. search (clear-laws, needs))
-    (λ c. search (clear-laws, needs)))
+    (λ c. search (clear-laws, needs))  -- loop-holds
+    (λ c. search (clear-laws, needs))  -- mul-list
+    (λ c. search (clear-laws, needs))  -- slice-write-list
+    (λ c. search (clear-laws, needs))  -- add-i
+    (λ c. search (clear-laws, needs))  -- loop-less
+    (λ c. search (clear-laws, needs))  -- loop-again
+    (λ c. search (clear-laws, needs))  -- same-length
+    (λ c. search (clear-laws, needs)))  -- returns

@@ -65,11 +65,3 @@ module _ (s : List ℕ) (a : ℕ) (l : List ℕ) (fits : a + length l ≤ length
 pub patch-front : (s l : List ℕ) (a : ℕ) → a ≤ length s → take a (patch s a l) ≡ take a s
 unfolding patch
 patch-front s l a h = take-at (take a s) _ a (length-take-le a s h)
-
--- a part put in twice is put in once
-pub patch-again : (s l k : List ℕ) (a : ℕ) → a ≤ length s → length l ≡ length k → patch (patch s a l) a k ≡ patch s a k
-unfolding patch
-patch-again s l k a h e =
-    let front : length (take a s) ≡ a = length-take-le a s h in
-    let rest : drop a (take a s ++ (l ++ drop (length l) (drop a s))) ≡ l ++ drop (length l) (drop a s) = drop-at (take a s) _ a front in
-    rw (take-at (take a s) (l ++ drop (length l) (drop a s)) a front, rest, drop-at l (drop (length l) (drop a s)) (length k) e, e)

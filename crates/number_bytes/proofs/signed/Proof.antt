@@ -21,4 +21,11 @@ returns-2 c =
     rw e (simp (le-ltb _ _ (c .if1 .left)) (ap negsuc (omega arith)))
 
 pub signed-spec : {M : Type 1} → statement M
-signed-spec = tie.close (tie.spec (λ c. search needs) (λ c. search needs) (λ c. search needs) returns returns-2)
+signed-spec =
+    tie.close
+    (tie.spec
+    (λ c. search needs)  -- cast-result
+    (λ c. search needs)  -- sub-result
+    (λ c. search needs)  -- cast-result-2
+    returns  -- returns
+    returns-2)  -- returns-2

@@ -17,13 +17,13 @@ digits-spec =
     (tie.spec
     Inv-loop
     μ-loop
-    (λ c. search (digit-laws, needs))
-    (λ c. search (digit-laws, needs))
-    (λ c. search (digit-laws, needs))
-    (λ c. search (digit-laws, needs))
-    (λ c κs. search (digit-laws, needs))
-    (λ c. search (digit-laws, needs))
-    (λ c. search (digit-laws, needs))
-    (λ c. search (digit-laws, needs))
-    (λ c κs. search (digit-laws, needs))
-    (λ c. search (digit-laws, needs)))
+    (λ c. search (digit-laws, needs))  -- loop-holds
+    (λ c. search (digit-laws, needs))  -- shared-slice-read-x
+    (λ c. search (digit-laws, needs))  -- returns
+    (λ c. search (digit-laws, needs))  -- returns-2
+    (λ c κs. search (digit-laws, needs))  -- next-requires
+    (λ c. search (digit-laws, needs))  -- add-i
+    (λ c. search (digit-laws, needs))  -- loop-less
+    (λ c. search (digit-laws, needs))  -- loop-again
+    (λ c κs. search (digit-laws, needs))  -- in-range-requires
+    (λ c. search (digit-laws, needs)))  -- returns-3

@@ -11,11 +11,11 @@ pub in-range-spec : {M : Type 1} → statement M
 in-range-spec =
     tie.close
     (tie.spec
-    (λ c κs. search needs)
-    (λ c. search needs)
+    (λ c κs. search needs)  -- negated-requires
+    (λ c. search needs)  -- cast-t10
     (λ c. let b = c .before .before in
-    range-below _ (b .before .args .n) _ (b .if1 .taken) (omega arith) (back32 (c .negated .result) (c .negated .ok) ∙ c .negated .ensures))
-    (λ c. search (range-laws, needs))
+    range-below _ (b .before .args .n) _ (b .if1 .taken) (omega arith) (back32 (c .negated .result) (c .negated .ok) ∙ c .negated .ensures))  -- returns
+    (λ c. search (range-laws, needs))  -- returns-2
     (λ c. let b = c .before in
-    range-above _ (b .before .args .n) _ (b .if1 .left) (omega arith) (toZ-pos w32 (b .before .args .n) (omega arith)))
-    (λ c. search (range-laws, needs)))
+    range-above _ (b .before .args .n) _ (b .if1 .left) (omega arith) (toZ-pos w32 (b .before .args .n) (omega arith)))  -- returns-3
+    (λ c. search (range-laws, needs)))  -- returns-4

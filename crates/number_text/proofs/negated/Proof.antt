@@ -7,7 +7,7 @@ pub negated-spec : {M : Type 1} → statement M
 negated-spec =
     tie.close
     (tie.spec
-    (λ c. search needs)
-    (λ c. search needs)
-    (λ c. search (negated-laws, needs))
-    (λ c. search (negated-laws, needs)))
+    (λ c. search needs)  -- sub-result
+    (λ c. search needs)  -- cast-result
+    (λ c. search (negated-laws, needs))  -- returns
+    (λ c. search (negated-laws, needs)))  -- returns-2

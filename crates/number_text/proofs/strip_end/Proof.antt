@@ -15,12 +15,12 @@ strip-end-spec =
     (tie.spec
     Inv-loop
     μ-loop
-    (λ c. search (end-laws, needs))
-    (λ c. search (end-laws, needs))
-    (λ c. search (end-laws, needs))
-    (λ c κs. search (end-laws, needs))
-    (λ c. search (end-laws, needs))
-    (λ c. search (end-laws, needs))
-    (λ c. search (end-laws, needs))
-    (λ c. search (end-laws, needs))
-    (λ c. search (end-laws, needs)))
+    (λ c. search (end-laws, needs))  -- loop-holds
+    (λ c. search (end-laws, needs))  -- sub-space
+    (λ c. search (end-laws, needs))  -- shared-slice-read-space
+    (λ c κs. search (end-laws, needs))  -- space-requires
+    (λ c. search (end-laws, needs))  -- returns
+    (λ c. search (end-laws, needs))  -- sub-e
+    (λ c. search (end-laws, needs))  -- loop-less
+    (λ c. search (end-laws, needs))  -- loop-again
+    (λ c. search (end-laws, needs)))  -- returns-2

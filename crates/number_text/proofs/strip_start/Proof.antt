@@ -17,11 +17,11 @@ strip-start-spec =
     (tie.spec
     Inv-loop
     μ-loop
-    (λ c. search (start-laws, needs))
-    (λ c. search (start-laws, needs))
-    (λ c κs. search (start-laws, needs))
-    (λ c. search (start-laws, needs))
-    (λ c. search (start-laws, needs))
-    (λ c. search (start-laws, needs))
-    (λ c. search (start-laws, needs))
-    (λ c. search (start-laws, needs)))
+    (λ c. search (start-laws, needs))  -- loop-holds
+    (λ c. search (start-laws, needs))  -- shared-slice-read-space
+    (λ c κs. search (start-laws, needs))  -- space-requires
+    (λ c. search (start-laws, needs))  -- returns
+    (λ c. search (start-laws, needs))  -- add-i
+    (λ c. search (start-laws, needs))  -- loop-less
+    (λ c. search (start-laws, needs))  -- loop-again
+    (λ c. search (start-laws, needs)))  -- returns-2

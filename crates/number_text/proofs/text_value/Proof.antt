@@ -7,11 +7,11 @@ pub text-value-spec : {M : Type 1} → statement M
 text-value-spec =
     tie.close
     (tie.spec
-    (λ c κs. search needs)
-    (λ c. search needs)
-    (λ c. search needs)
-    (λ c. search needs)
-    (λ c κs. search needs)
-    (λ c. search (text-laws, needs))
-    (λ c κs. search needs)
-    (λ c. search (text-laws, needs)))
+    (λ c κs. search needs)  -- strip-start-requires
+    (λ c. search needs)  -- sub-t
+    (λ c. search needs)  -- part-t-start
+    (λ c. search needs)  -- part-t-end
+    (λ c κs. search needs)  -- strip-end-requires
+    (λ c. search (text-laws, needs))  -- slice-aggregate-whole-number
+    (λ c κs. search needs)  -- whole-number-requires
+    (λ c. search (text-laws, needs)))  -- returns

@@ -17,15 +17,15 @@ join-spec =
     (tie.spec
     Inv-loop
     μ-loop
-    (λ c. search (join-laws, needs))
-    (λ c. search (join-laws, needs))
-    (λ c. search (join-laws, needs))
-    (λ c. search (join-laws, needs))
-    (λ c. search (join-laws, needs))
-    (λ c. search (join-laws, needs))
-    (λ c. search (join-laws, needs))
-    (λ c. search (join-laws, needs))
-    (λ c. search (join-laws, needs))
-    (λ c. search (join-laws, needs))
-    (λ c. search (join-laws, needs))
-    (λ c. search (join-laws, needs)))
+    (λ c. search (join-laws, needs))  -- loop-holds
+    (λ c. search (join-laws, needs))  -- mul-set
+    (λ c. search (join-laws, needs))  -- slice-read-set
+    (λ c. search (join-laws, needs))  -- mul-set-2
+    (λ c. search (join-laws, needs))  -- shared-slice-read-set
+    (λ c. search (join-laws, needs))  -- mul-set-3
+    (λ c. search (join-laws, needs))  -- slice-write-set
+    (λ c. search (join-laws, needs))  -- add-i
+    (λ c. search (join-laws, needs))  -- loop-less
+    (λ c. search (join-laws, needs))  -- loop-again
+    (λ c. search (join-laws, needs))  -- same-length
+    (λ c. search (join-laws, needs)))  -- returns

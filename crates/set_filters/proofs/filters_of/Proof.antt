@@ -16,14 +16,14 @@ filters-of-spec =
     (tie.spec
     Inv-loop
     μ-loop
-    (λ c κs. search (root-laws, needs))
-    (λ c. search (root-laws, needs))
-    (λ c κs. search (root-laws, needs))
-    (λ c κs. search (root-laws, needs))
-    (λ c. search (root-laws, needs))
-    (λ c κs. search (root-laws, needs))
-    (λ c. search (root-laws, needs))
-    (λ c. search (root-laws, needs))
-    (λ c. search (root-laws, needs))
-    (λ c. search (root-laws, needs))
-    (λ c. search (root-laws, needs)))
+    (λ c κs. search (root-laws, needs))  -- filter-count-requires
+    (λ c. search (root-laws, needs))  -- loop-holds
+    (λ c κs. search (root-laws, needs))  -- has-requires
+    (λ c κs. search (root-laws, needs))  -- flag-requires
+    (λ c. search (root-laws, needs))  -- add-r
+    (λ c κs. search (root-laws, needs))  -- body-size-requires
+    (λ c. search (root-laws, needs))  -- add-first
+    (λ c. search (root-laws, needs))  -- add-k
+    (λ c. search (root-laws, needs))  -- loop-less
+    (λ c. search (root-laws, needs))  -- loop-again
+    (λ c. search (root-laws, needs)))  -- returns

@@ -16,7 +16,8 @@ pub answer-spec : {M : Type 1} → statement M
 answer-spec =
     tie.close
     (tie.spec
-    Inv-loop μ-loop
+    Inv-loop
+    μ-loop
     (λ c κs. search needs)  -- clear-requires
     (λ c. search (answer-laws, needs))  -- loop-holds
     (λ c. search needs)  -- mul-a

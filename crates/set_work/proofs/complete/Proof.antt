@@ -13,7 +13,8 @@ pub complete-spec : {M : Type 1} → statement M
 complete-spec =
     tie.close
     (tie.spec
-    Inv-loop μ-loop
+    Inv-loop
+    μ-loop
     (λ c κs. search needs)  -- clear-requires
     (λ c. search (complete-laws, needs))  -- loop-holds
     (λ c. search needs)  -- sub-i

@@ -17,7 +17,8 @@ pub leaves-spec : {M : Type 1} → statement M
 leaves-spec =
     tie.close
     (tie.spec
-    Inv-loop μ-loop
+    Inv-loop
+    μ-loop
     (λ c. search (leaves-laws, c .slice-known .given, needs))  -- loop-holds
     (λ c. search needs)  -- mul-a
     (λ c. search needs)  -- mul-join-leaf

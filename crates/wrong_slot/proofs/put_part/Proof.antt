@@ -15,14 +15,14 @@ put-part-spec =
     (tie.spec
     Inv-loop
     μ-loop
-    (λ c κs. search needs)
-    (λ c. search needs)
-    (λ c. search needs)
-    (λ c. search needs)
-    (λ c κs. search needs)
-    (λ c. search needs)
-    (λ c. search needs)
-    (λ c. search needs)
-    (λ c. search needs)
-    (λ c κs. search needs)
-    (λ c. search needs))
+    (λ c κs. search needs)  -- write-all-requires
+    (λ c. search needs)  -- loop-holds
+    (λ c. search needs)  -- mul-put
+    (λ c. search needs)  -- shared-slice-read-put
+    (λ c κs. search needs)  -- put-requires
+    (λ c. search needs)  -- add-k
+    (λ c. search needs)  -- loop-less
+    (λ c. search needs)  -- loop-again
+    (λ c. search needs)  -- slice-aggregate-write-all
+    (λ c κs. search needs)  -- write-all-requires-2
+    (λ c. search needs))  -- returns
