@@ -293,10 +293,10 @@ static void limit_messages(void) {
             now.answers = 3 * messages - short_by;
             check_gives(&now, short_by == 0 ? 0 : 11);
         }
-        for (unsigned room = 640; room <= 660; room++) {
+        for (unsigned room = LEVEL_NUMBERS - 10; room <= LEVEL_NUMBERS + 10; room++) {
             plans_to_case();
             now.workspace = room;
-            check_gives(&now, room < 650 ? 12 : 0);
+            check_gives(&now, room < LEVEL_NUMBERS ? 12 : 0);
         }
     }
 }

@@ -3,6 +3,7 @@
 
 - crates.txt lists, for each crate, the crates that its files name and no other.
 - No line of a contract, and no line of code or comment beside it, has more than 120 columns.
+- Nothing is imported that the file does not name, and each need of a proof has its name behind it.
 - Every link of a page leads to a file or a folder, and every heading that it names is there.
 """
 import glob
@@ -58,6 +59,39 @@ def narrow():
                 yield "%s:%d: %d columns" % (path, number, len(line))
 
 
+IMPORT = re.compile(r"^(?:ghost )?use ([^\n{;]*?)(?:\.\{([^}]*)\})?( as [^\n;]+)?;?\n", re.M)
+
+
+def mentions(text, name):
+    """Whether a text names something: an operator by its parts, anything else as a word."""
+    parts = [part for part in name.split("_") if part]
+    if name.startswith("_") or name.endswith("_"):
+        return all(part in text for part in parts)
+    return re.search(r"(?<![\w\-′·])" + re.escape(name) + r"(?![\w\-′])", text) is not None
+
+
+def imports_named():
+    for path in under("crates", ".antt", ".rt"):
+        text = read(path)
+        rest = re.sub(r"^\s*(--|//).*$", "", IMPORT.sub("", text), flags=re.M)
+        for place, names, alias in IMPORT.findall(text):
+            words = [word.strip() for word in names.replace("\n", " ").split(",") if word.strip()]
+            if not names:
+                words = [(alias.replace(" as ", "") or re.split(r"[.:]", place)[-1]).strip()]
+            for word in words:
+                last = word.split(" as ")[-1]
+                last = last if last.startswith("_") else last.split(".")[-1]
+                if not mentions(rest, last):
+                    yield "%s: imports %s, which it does not name" % (path, word)
+
+
+def needs_named():
+    for path in [p for p in under("crates", "Proof.antt")]:
+        for number, line in enumerate(read(path).split("\n"), 1):
+            if re.match(r"    \(λ c( κs)?\. .*\)$", line):
+                yield "%s:%d: a need without its name" % (path, number)
+
+
 def anchors(text):
     heads = re.findall(r"^#+ (.*)$", text, re.M)
     return {re.sub(r"[^\w\- ]", "", head.lower()).replace(" ", "-") for head in heads}
@@ -75,12 +109,12 @@ def links():
 
 
 def main():
-    wrong = list(crates_as_listed()) + list(narrow()) + list(links())
+    wrong = list(crates_as_listed()) + list(narrow()) + list(imports_named()) + list(needs_named()) + list(links())
     for line in wrong:
         print("house: " + line)
     if wrong:
         sys.exit("house: %d faults" % len(wrong))
-    print("house: crates.txt, columns and links are as they should be")
+    print("house: crates.txt, columns, imports, names of needs and links are as they should be")
 
 
 if __name__ == "__main__":

@@ -11,9 +11,10 @@ use borrow.Author.Tests.{ltb-true, ltb-false}
 use Rattle.rules.specs.State.{State}
 use Rattle.rules.specs.Sets.{Question, workOut}
 use Rattle.rules.specs.Memory.{questionWidth, questionIn, slotAnswer, slotsLent, Kept, firstSlot, Reply, ask}
+use Rattle.rules.specs.Memory.Key.{key-of}
 use Rattle.rules.specs.Memory.Laws.{slot-some, kept-answer, fresh-kept, fresh-full}
 use Rattle.rules.specs.Pass.{Carried, askNext}
-use Rattle.memory_slots.specs.Slots.{hasSlot, withSlot, nine-of}
+use Rattle.memory_slots.specs.Slots.{hasSlot, withSlot}
 use Rattle.memory_index.specs.declared.Found.{Found}
 use Rattle.memory_index.specs.declared.Found.the-variants.{At, Nothing}
 use Rattle.memory_index.specs.Index.{meant, Indexed}
@@ -34,6 +35,10 @@ module _ (m : List ℕ) (n : ℕ) (q : Question) (r : Found) (found : meant r �
   pub found-room : (x : List ℕ) (i : ℕ) → Indexed x m n → r ≡ At i → hasSlot m i
   found-room x i g d = omega (arith, slot-some m n q i (found-some i d) .filled, g .fits)
 
+pub worked-out : (b : List State) (w l s : List ℕ) (x : ℕ) → l ≡ workOut b (record { states = s; label = x }) → s ≡ (questionIn w) .states
+    → x ≡ (questionIn w) .label → l ≡ workOut b (questionIn w)
+worked-out b w l s x e f g = rw (f, g) at e
+
 module _ (b : List State) (m w l : List ℕ) (c : Counts) where
   -- a reply of the inner call, with the question counted
   abbrev counted : Reply → List ℕ × Carried
@@ -52,7 +57,10 @@ module _ (b : List State) (m w l : List ℕ) (c : Counts) where
     pub anew-kept : (m′ : List ℕ) → c .filled < s → length w ≡ questionWidth → m′ ≡ withSlot m (c .filled) w l
         → repliedIn l m′ (record { asked = c .asked + 1; anew = c .anew + 1; filled = c .filled + 1 }) ≡ askNext b (questionIn w) (carriedIn m c)
     anew-kept m′ h long e =
-        rw (e, worked) (rw (nine-of w long) at (sym (ap counted (fresh-kept b (questionIn w) (carriedIn m c .kept) new (omega arith)))))
+        let q : Question = questionIn w in
+        let kept : List ℕ → Reply
+        = λ n. record { answer = workOut b q; kept = record { memory = withSlot m (c .filled) n (workOut b q); anew = c .anew + 1; filled = c .filled + 1 } } in
+        rw (e, worked) (ap (λ n. counted (kept n)) (sym (key-of w long)) ∙ sym (ap counted (fresh-kept b q (carriedIn m c .kept) new (omega arith))))
 
 -- ── any answer ──
 module _ (b : List State) (q : Question) (k : Kept) where

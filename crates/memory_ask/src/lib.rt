@@ -8,10 +8,10 @@ ghost use mathlib.Core.Path.{_≡_};
 ghost use mathlib.Core.Option.{none};
 ghost use lib.ListN.{length};
 ghost use Rattle.lists.specs.Lending.{was, left};
-ghost use Rattle.rules.specs.Sets.{setWidth};
+ghost use Rattle.rules.specs.Sets.{setWidth, workOut};
 ghost use Rattle.rules.specs.Memory.{questionWidth, questionIn, firstSlot};
 ghost use Rattle.rules.specs.Pass.{askNext};
-ghost use Rattle.book_plan.specs.Plan.{statesIn};
+ghost use Rattle.book_plan.specs.Plan.{Planned, statesIn};
 ghost use Rattle.memory_hash.specs.Hash.{Hashed};
 ghost use Rattle.memory_index.specs.Index.{Indexed};
 ghost use Rattle.memory_ask.specs.Ask.{carried, replied, CanAsk};
@@ -26,6 +26,15 @@ pub struct Counts {
 
 // 2^63: a count below it stays below 2^64, whatever a day file asks.
 pub const LIMIT: u64 = 1 << 63;
+
+// Works out what a question's numbers ask.
+fn work_out(plan: &[u64], q: &[u64], answer: &mut [u64])
+    requires { ⌜ Planned (now plan) × (length (now q) ≡ questionWidth) × (length (now answer) ≡ setWidth) ⌝ }
+    ensures { λ _. ⌜ left answer ≡ workOut (statesIn (was plan)) (questionIn (was q)) ⌝ }
+{
+    let label = memory_slots::label_of(q);
+    set_work::work_out(plan, memory_slots::set_of(q), label, answer);
+}
 
 // A question that no filled slot asks: worked out, and kept where a slot is free.
 fn work_anew(
@@ -49,7 +58,7 @@ fn work_anew(
     let mut next = c;
     next.asked = c.asked + 1;
     next.anew = c.anew + 1;
-    set_work::work_out(plan, q, answer);
+    work_out(plan, q, answer);
     if filled < memory_slots::lent(memory) {
         memory_index::keep(index, memory, filled, q, h, answer);
         next.filled = filled + 1;

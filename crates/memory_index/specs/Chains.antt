@@ -14,8 +14,9 @@ use borrow.Author.Tests.{eqb-true, eq-eqb, ne-eqb}
 use Rattle.lists.specs.Choice.{pick}
 use Rattle.lists.specs.Same.{sameList}
 use Rattle.rules.specs.Memory.{questionWidth, mostSlots, questionIn, slotQuestion}
+use Rattle.rules.specs.Memory.Key.{key-of}
 use Rattle.rules.specs.Asked.Different.{sameList-eq}
-use Rattle.memory_slots.specs.Slots.{nine-of, orElse, or-none, first-more}
+use Rattle.memory_slots.specs.Slots.{orElse, or-none, first-more}
 use Rattle.memory_hash.specs.Hash.{heads, hashOf, hash-small}
 use Rattle.memory_index.specs.Index.{indexRoom, firstBy, isNone, isFirst, entered, indexOf}
 
@@ -55,7 +56,7 @@ module _ (m w : List ℕ) (long : length w ≡ questionWidth) where
   here i = pick (sameList (slotQuestion m i) w) (some i) none
 
   by-more : (i : ℕ) → firstBy m (suc i) w ≡ orElse (firstBy m i w) (here i)
-  by-more i = first-more m i (questionIn w) ∙ rw (nine-of w long)
+  by-more i = first-more m i (questionIn w) ∙ rw (key-of w long)
 
   -- one that asks another question changes nothing
   pub by-other : (i : ℕ) → sameList (slotQuestion m i) w ≡ false → firstBy m (suc i) w ≡ firstBy m i w

@@ -1,18 +1,18 @@
--- A memory that has a slot, and one with a slot kept. Then laws: of a question and its nine numbers, of the count of slots lent, of a slot
--- that is kept and the slots before it, of the first slot that asks.
+-- A memory that has a slot, and one with a slot kept. Then laws: of the count of slots lent, of a slot that is kept and the
+-- slots before it, of the first slot that asks.
 use mathlib.Core.Path.{_≡_, refl, sym, ap, _∙_}
 use mathlib.Core.List.{List, _++_, append-assoc}
 use mathlib.Core.Option.{Option, none, some}
 use Prim.Native.Nat.{ℕ, zero, suc, _+_, _*_, _/_, _≤_, _<_}
 use native.Mathlib.Omega.{arith}
 use lib.ListN.{length, take, length-append}
-use lib.Seq.{take-at, drop-at, take-suc, take-all, length-take-le}
+use lib.Seq.{take-at, drop-at, length-take-le}
 use Rattle.lists.specs.Choice.{pick}
 use Rattle.lists.specs.Parts.{part, patch}
 use Rattle.lists.specs.Parts.Laws.{patch-long, patch-below}
 use Rattle.lists.specs.Same.{sameList}
 use Rattle.rules.specs.Sets.{setWidth, Question}
-use Rattle.rules.specs.Memory.{questionWidth, slotWidth, mostSlots, nine, questionIn, slotQuestion, slotsLent, firstSlot}
+use Rattle.rules.specs.Memory.{questionWidth, slotWidth, mostSlots, keyOf, slotQuestion, slotsLent, firstSlot}
 
 -- slot i lies in the memory
 abbrev pub hasSlot : List ℕ → ℕ → Type 0
@@ -21,10 +21,6 @@ hasSlot m i = slotWidth * i + slotWidth ≤ length m
 -- the memory with a question and its answer in slot i
 abbrev pub withSlot : List ℕ → ℕ → List ℕ → List ℕ → List ℕ
 withSlot m i q a = patch m (slotWidth * i) (q ++ a)
-
--- nine numbers are those of the question that they ask
-pub nine-of : (w : List ℕ) → length w ≡ questionWidth → nine (questionIn w) ≡ w
-nine-of w h = sym (take-suc w setWidth 0 (omega arith)) ∙ take-all questionWidth w (omega arith)
 
 -- ── the count of slots lent ──
 pub lent-less : (m : List ℕ) (n : ℕ) → n ≡ length m / slotWidth → n < mostSlots → n ≡ slotsLent m
@@ -78,9 +74,9 @@ first-none m q = refl
 
 -- one slot more
 pub first-more : (m : List ℕ) (n : ℕ) (q : Question)
-    → firstSlot m (suc n) q ≡ orElse (firstSlot m n q) (pick (sameList (slotQuestion m n) (nine q)) (some n) none)
+    → firstSlot m (suc n) q ≡ orElse (firstSlot m n q) (pick (sameList (slotQuestion m n) (keyOf q)) (some n) none)
 unfolding firstSlot orElse
-first-more m n q = go (firstSlot m n q) (pick (sameList (slotQuestion m n) (nine q)) (some n) none)
+first-more m n q = go (firstSlot m n q) (pick (sameList (slotQuestion m n) (keyOf q)) (some n) none)
   where
     go : (f g : Option ℕ) → elim f as (λ x. Option ℕ) [ some i ↦ some i | none ↦ g ] ≡ orElse f g
     go (some i) g = refl

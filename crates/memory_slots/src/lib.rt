@@ -8,18 +8,37 @@ ghost use Prim.Native.Nat.{_≤_};
 ghost use lib.ListN.{length};
 ghost use Rattle.lists.specs.Lending.{was, left};
 ghost use Rattle.rules.specs.Sets.{setWidth};
-ghost use Rattle.rules.specs.Memory.{questionWidth, slotWidth, mostSlots, slotQuestion, slotAnswer, slotsLent};
+ghost use Rattle.rules.specs.Memory.{questionWidth, slotWidth, mostSlots, questionIn};
+ghost use Rattle.rules.specs.Memory.{slotQuestion, slotAnswer, slotsLent};
 ghost use Rattle.memory_slots.specs.Slots.{hasSlot, withSlot};
 
 // A slot: the question's numbers, then the answer's.
-pub const QUESTION: usize = 9;
+pub const QUESTION: usize = LABEL + 1;
 
 pub const ANSWER: usize = 8;
+
+// A question: the numbers of the asked set, then the label.
+pub const LABEL: usize = 8;
 
 pub const SLOT: usize = QUESTION + ANSWER;
 
 // The most slots that may be filled.
 pub const SLOTS: usize = 4096;
+
+// The set of which a question is asked.
+pub fn set_of(q: &[u64]) -> &[u64]
+    requires { ⌜ length (now q) ≡ questionWidth ⌝ }
+    ensures { λ r. ⌜ (now r ≡ (questionIn (was q)) .states) × (length (now r) ≡ setWidth) ⌝ }
+{
+    &q[0..LABEL]
+}
+
+pub fn label_of(q: &[u64]) -> u64
+    requires { ⌜ length (now q) ≡ questionWidth ⌝ }
+    ensures { λ r. ⌜ r ≡ (questionIn (was q)) .label ⌝ }
+{
+    q[LABEL]
+}
 
 // The count of slots that may be filled.
 pub fn lent(memory: &[u64]) -> usize

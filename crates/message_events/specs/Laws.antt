@@ -18,9 +18,10 @@ use Rattle.rules.specs.State.{State, anyElement, anyAttribute, attribute}
 use Rattle.rules.specs.Book.{Meaning}
 use Rattle.rules.specs.Message.{mostOpen, startAstray, startRefusal, stageAfter}
 use Rattle.rules.specs.Sets.{leavesOf}
-use Rattle.rules.specs.Memory.{questionIn}
+use Rattle.rules.specs.Memory.{keyOf, questionIn}
 use Rattle.rules.specs.Pass.{Carried, askNext}
-use Rattle.message_levels.specs.Level.{HasLevel, labelIn, stageIn, questionAt, openedAt, stagedAt, joinedAt}
+use Rattle.message_levels.specs.Level.{HasLevel, labelIn, stageIn, asksAt, openedAt, stagedAt, joinedAt}
+use Rattle.message_levels.specs.Laws.{question-is}
 use Rattle.memory_ask.specs.declared.Counts.{Counts}
 use Rattle.memory_ask.specs.Ask.{carriedIn}
 use Rattle.memory_index.specs.Index.{Indexed}
@@ -158,9 +159,9 @@ module _ (body : List ℕ) (b : Meaning) (ws : List ℕ) (s : Reader) where
 pub ruleset text-laws = (text-cut, text-astray, text-out, text-next)
 
 -- ── end ──
-pub close-is : (b : List State) (ws w a q : List ℕ) (d : ℕ) (c r : Carried) → q ≡ questionAt ws d → (a, r) ≡ askNext b (questionIn q) c → w ≡ joinedAt ws (d - 1) a → (w, r) ≡ closeOf b ws d c
+pub close-is : (b : List State) (ws w a q : List ℕ) (d : ℕ) (c r : Carried) → HasLevel ws d → q ≡ keyOf (asksAt ws d) → (a, r) ≡ askNext b (questionIn q) c → w ≡ joinedAt ws (d - 1) a → (w, r) ≡ closeOf b ws d c
 unfolding closeOf
-close-is b ws w a q d c r k e f = rw f (ap (λ (y : List ℕ × Carried). (joinedAt ws (d - 1) (y .0), y .1)) (rw k at e))
+close-is b ws w a q d c r has k e f = rw f (ap (λ (y : List ℕ × Carried). (joinedAt ws (d - 1) (y .0), y .1)) (rw (k, question-is ws d has) at e))
 
 module _ (body : List ℕ) (b : Meaning) (ws m : List ℕ) (s : Reader) where
   pub end-short : length body - s .place < 3 → (refusedAt 22 (s .place), ws, m) ≡ endOf body b ws m s

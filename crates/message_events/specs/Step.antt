@@ -13,9 +13,8 @@ use Rattle.rules.specs.State.{State, attribute}
 use Rattle.rules.specs.Book.{Meaning, outOfRange}
 use Rattle.rules.specs.Message.{startRefusal, stageAfter}
 use Rattle.rules.specs.Sets.{leavesOf}
-use Rattle.rules.specs.Memory.{questionIn}
 use Rattle.rules.specs.Pass.{Carried, askNext}
-use Rattle.message_levels.specs.Level.{HasLevel, labelIn, stageIn, questionAt, openedAt, stagedAt, joinedAt}
+use Rattle.message_levels.specs.Level.{HasLevel, labelIn, stageIn, asksAt, openedAt, stagedAt, joinedAt}
 use Rattle.memory_ask.specs.declared.Counts.{Counts}
 use Rattle.memory_ask.specs.Ask.{carriedIn}
 use Rattle.memory_index.specs.Index.{Indexed}
@@ -72,7 +71,7 @@ textOf body b ws s = pick (past body s 2) (refusedAt 22 (s .place), ws) (textFor
 -- ── end ──
 -- the question of level d is asked, and its answer joined to the level under it
 unfoldable pub closeOf : List State → List ℕ → ℕ → Carried → List ℕ × Carried
-closeOf b ws d c = let a : List ℕ × Carried = askNext b (questionIn (questionAt ws d)) c in (joinedAt ws (d - 1) (a .0), a .1)
+closeOf b ws d c = let a : List ℕ × Carried = askNext b (asksAt ws d) c in (joinedAt ws (d - 1) (a .0), a .1)
 
 abbrev pub countsIn : Carried → Counts
 countsIn c = record { asked = c .asked; anew = c .kept .anew; filled = c .kept .filled }

@@ -11,9 +11,10 @@ use Rattle.lists.specs.Parts.Laws.{part-lent, part-back, part-long, patch-long,
 use Rattle.rules.specs.Message.{Level}
 use Rattle.rules.specs.Sets.{setWidth, noStates, either}
 use Rattle.rules.specs.Sets.Laws.{either-long}
-use Rattle.rules.specs.Memory.{questionWidth, questionIn}
+use Rattle.rules.specs.Memory.{questionWidth, keyOf, questionIn}
+use Rattle.rules.specs.Memory.Key.{key-of, key-asks}
 use Rattle.rules.specs.Run.{levelWidth, workspaceWidth}
-use Rattle.message_levels.specs.Level.{labelPlace, stagePlace, levelAt, withLevel, HasLevel, labelIn, stageIn, setAt, questionAt, levelOf, opened, staged, joined, openedAt, stagedAt, joinedAt, OneLevel}
+use Rattle.message_levels.specs.Level.{labelPlace, stagePlace, levelAt, withLevel, HasLevel, labelIn, stageIn, setAt, asksAt, levelOf, opened, staged, joined, openedAt, stagedAt, joinedAt, OneLevel}
 
 -- ── a level's numbers stay as many ──
 opened-long : (x : ℕ) → length (opened x) ≡ levelWidth
@@ -43,9 +44,15 @@ unfolding joined
 joined-is l a e h = rw h
 
 -- ── parts of the workspace ──
-pub question-lent : (ws : List ℕ) (d : ℕ) → take (levelWidth * d + questionWidth - levelWidth * d) (drop (levelWidth * d) ws) ≡ questionAt ws d
-unfolding questionAt
-question-lent ws d = part-lent ws (levelWidth * d) questionWidth
+-- a level's set and label, as they stand, are the numbers of what it asks
+pub question-lent : (ws : List ℕ) (d : ℕ) → HasLevel ws d → take (levelWidth * d + questionWidth - levelWidth * d) (drop (levelWidth * d) ws) ≡ keyOf (asksAt ws d)
+unfolding setAt part
+question-lent ws d has =
+    let l : List ℕ = drop (levelWidth * d) ws in
+    let w : List ℕ = part ws (levelWidth * d) questionWidth in
+    let a : getD (take questionWidth l) labelPlace 0 ≡ labelIn ws d = getD-take questionWidth l labelPlace 0 (omega arith) ∙ getD-drop (levelWidth * d) ws labelPlace 0 in
+    let q : questionIn w ≡ asksAt ws d = rw (take-take setWidth questionWidth l (omega arith), a) refl in
+    part-lent ws (levelWidth * d) questionWidth ∙ sym (key-of w (part-long ws (levelWidth * d) questionWidth (omega arith))) ∙ ap keyOf q
 
 pub set-lent : (ws : List ℕ) (d : ℕ) → take (levelWidth * d + setWidth - levelWidth * d) (drop (levelWidth * d) ws) ≡ setAt ws d
 unfolding setAt
@@ -114,21 +121,13 @@ joined-in l a = rw (behind 0, behind 1, take-at (either (take setWidth l) a) (dr
         let e : length (either (take setWidth l) a) ≡ setWidth = either-long (take setWidth l) a in
         rw e at (getD-append-add (either (take setWidth l) a) (drop setWidth l) i 0) ∙ getD-drop setWidth l i 0
 
--- the question of a level is its set and its label
-pub question-is : (ws : List ℕ) (d : ℕ) → questionIn (questionAt ws d) ≡ record { states = setAt ws d; label = labelIn ws d }
-unfolding questionAt setAt part
-question-is ws d =
-    let l : List ℕ = drop (levelWidth * d) ws in
-    let a : getD (take questionWidth l) labelPlace 0 ≡ labelIn ws d = getD-take questionWidth l labelPlace 0 (omega arith) ∙ getD-drop (levelWidth * d) ws labelPlace 0 in
-    rw (take-take setWidth questionWidth l (omega arith), a) refl
-
 pub set-long : (ws q : List ℕ) (d : ℕ) → q ≡ setAt ws d → HasLevel ws d → length q ≡ setWidth
 unfolding setAt
 set-long ws q d e has = rw e (part-long ws (levelWidth * d) setWidth (omega arith))
 
-pub question-long : (ws q : List ℕ) (d : ℕ) → q ≡ questionAt ws d → HasLevel ws d → length q ≡ questionWidth
-unfolding questionAt
-question-long ws q d e has = rw e (part-long ws (levelWidth * d) questionWidth (omega arith))
+-- the numbers of what a level asks ask it
+pub question-is : (ws : List ℕ) (d : ℕ) → HasLevel ws d → questionIn (keyOf (asksAt ws d)) ≡ asksAt ws d
+question-is ws d has = key-asks (asksAt ws d) (set-long ws (setAt ws d) d refl has)
 
 -- ── work on one level touches no other ──
 module _ (ws : List ℕ) (d : ℕ) (has : HasLevel ws d) where

@@ -6,8 +6,7 @@ use mathlib.Core.List.{List, _++_}
 use lib.ListN.{length, getD, take, drop, set, replicate}
 use Rattle.lists.specs.Parts.{part, patch}
 use Rattle.rules.specs.Message.{Level}
-use Rattle.rules.specs.Sets.{setWidth, either}
-use Rattle.rules.specs.Memory.{questionWidth}
+use Rattle.rules.specs.Sets.{setWidth, Question, either}
 use Rattle.rules.specs.Run.{levelWidth, levels, workspaceWidth}
 
 -- the numbers of a set, then the label, then the stage
@@ -38,9 +37,9 @@ stageIn ws d = getD ws (levelWidth * d + stagePlace) 0
 unfoldable pub setAt : List ℕ → ℕ → List ℕ
 setAt ws d = part ws (levelWidth * d) setWidth
 
--- the set and the label
-unfoldable pub questionAt : List ℕ → ℕ → List ℕ
-questionAt ws d = part ws (levelWidth * d) questionWidth
+-- what it asks: its set and its label
+abbrev pub asksAt : List ℕ → ℕ → Question
+asksAt ws d = record { states = setAt ws d; label = labelIn ws d }
 
 -- the level as the rules have it
 abbrev pub levelOf : List ℕ → ℕ → Level (List ℕ)

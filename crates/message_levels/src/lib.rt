@@ -8,10 +8,11 @@ ghost use Prim.Native.Nat.{_≤_};
 ghost use lib.ListN.{length, drop, replicate};
 ghost use Rattle.lists.specs.Lending.{was, left};
 ghost use Rattle.rules.specs.Sets.{setWidth, leavesOf};
+ghost use Rattle.rules.specs.Memory.{questionWidth, keyOf};
 ghost use Rattle.rules.specs.Run.{levelWidth, workspaceWidth};
 ghost use Rattle.number_text.specs.Meant.{meant};
 ghost use Rattle.book_plan.specs.Plan.{Planned, statesIn};
-ghost use Rattle.message_levels.specs.Level.{HasLevel, labelIn, stageIn, setAt, questionAt};
+ghost use Rattle.message_levels.specs.Level.{HasLevel, labelIn, stageIn, setAt, asksAt};
 ghost use Rattle.message_levels.specs.Level.{opened, staged, joined, openedAt, stagedAt, joinedAt};
 use number_text::Value;
 
@@ -58,10 +59,10 @@ pub fn set_of(workspace: &[u64], d: usize) -> &[u64]
     &workspace[a..a + SET]
 }
 
-// A level's set and label, as they stand.
+// The numbers of what a level asks: its set and label, as they stand.
 pub fn question_of(workspace: &[u64], d: usize) -> &[u64]
     requires { ⌜ HasLevel (now workspace) d ⌝ }
-    ensures { λ r. ⌜ now r ≡ questionAt (was workspace) d ⌝ }
+    ensures { λ r. ⌜ (now r ≡ keyOf (asksAt (was workspace) d)) × (length (now r) ≡ questionWidth) ⌝ }
 {
     let a = LEVEL * d;
     &workspace[a..a + QUESTION]

@@ -17,10 +17,9 @@ use Rattle.rules.specs.Bytes.{le2}
 use Rattle.rules.specs.State.{attribute}
 use Rattle.rules.specs.Message.{Event, text, bad, got, labelled, texted, Level, Reading, startRefusal, textRefusal, endRefusal, stageAfter, Next, refused, on, unless, onStart, onText, onEnd, shutInto}
 use Rattle.rules.specs.Sets.{either, leavesOf, noStates}
-use Rattle.rules.specs.Memory.{questionIn}
 use Rattle.rules.specs.Pass.{Carried, askNext, asking}
-use Rattle.message_levels.specs.Level.{HasLevel, OneLevel, labelIn, stageIn, setAt, questionAt, levelOf, openedAt, stagedAt, joinedAt}
-use Rattle.message_levels.specs.Laws.{opened-one, staged-one, joined-one, opened-holds, staged-holds, joined-holds, other-holds, has-still, question-is}
+use Rattle.message_levels.specs.Level.{HasLevel, OneLevel, labelIn, stageIn, setAt, asksAt, levelOf, openedAt, stagedAt, joinedAt}
+use Rattle.message_levels.specs.Laws.{opened-one, staged-one, joined-one, opened-holds, staged-holds, joined-holds, other-holds, has-still}
 use Rattle.memory_ask.specs.Ask.{carriedIn}
 use Rattle.message_events.specs.declared.Reader.{Reader}
 use Rattle.message_events.specs.Meant.{Stepped, goesOn, refusedAt}
@@ -236,8 +235,8 @@ module _ (b : Meaning) (ws m : List ℕ) (s : Reader) (has : HasLevel ws (s .dep
     shut-agrees : on (shutInto (asking b) (readingOf ws m s) 3 (levelsUnder ws (s .depth))) ≡ ending (ended s (closeOf (b .states) ws (s .depth) (carriedIn m (s .counts))))
     unfolding readingOf closeOf
     shut-agrees =
-        let a : List ℕ × Carried = askNext (b .states) (questionIn (questionAt ws (s .depth))) (carriedIn m (s .counts)) in
-        rw (under-split, ← question-is ws (s .depth)) (ap on (sym (shut-reading (a .0) (a .1))))
+        let a : List ℕ × Carried = askNext (b .states) (asksAt ws (s .depth)) (carriedIn m (s .counts)) in
+        rw under-split (ap on (sym (shut-reading (a .0) (a .1))))
 
   module _ (body : List ℕ) (whole : 3 ≤ length body - s .place) where
     on-end : (x : ℕ) → onEnd (asking b) (readingOf ws m s) 3 x

@@ -16,12 +16,12 @@ use Rattle.rules.specs.Bytes.{le2}
 use Rattle.rules.specs.State.{attribute}
 use Rattle.rules.specs.Message.{Event, start, end, text, bad, got, labelled, texted, firstEvent, startRefusal, stageAfter, outcome, onEvent, events}
 use Rattle.rules.specs.Sets.{leavesOf, Question}
-use Rattle.rules.specs.Memory.{Kept, questionIn, ask}
+use Rattle.rules.specs.Memory.{Kept, ask}
 use Rattle.rules.specs.Pass.{asking}
 use Rattle.rules.specs.Message.Events.{events-skip, events-broken, event-refused, first-kind}
 use Rattle.rules.specs.Run.{workspaceWidth}
 use Rattle.rules.specs.Run.Laws.{accepted-event, refused-event}
-use Rattle.message_levels.specs.Level.{HasLevel, OneLevel, labelIn, stageIn, questionAt, openedAt, stagedAt, joinedAt}
+use Rattle.message_levels.specs.Level.{HasLevel, OneLevel, labelIn, stageIn, asksAt, openedAt, stagedAt, joinedAt}
 use Rattle.message_levels.specs.Laws.{opened-one, staged-one, joined-one, has-still}
 use Rattle.memory_ask.specs.declared.Counts.{Counts}
 use Rattle.memory_ask.specs.Ask.{carriedIn}
@@ -132,7 +132,7 @@ module _ (body : List ℕ) (b : Meaning) (ws m : List ℕ) (s : Reader) (has : H
   end-sound : 3 ≤ length body - s .place → Fine 3 (endOf body b ws m s)
   unfolding endOf closeOf
   end-sound whole =
-      let q : Question = questionIn (questionAt ws (s .depth)) in
+      let q : Question = asksAt ws (s .depth) in
       let k : Kept = carriedIn m (s .counts) .kept in
       pick-cases (Fine 3) (past body s 3) (λ e. (refl, refl, refl))
       (λ e. pick-cases (Fine 3) (eqb (s .depth) 0) (λ f. (refl, refl, refl))

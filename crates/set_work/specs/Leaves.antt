@@ -1,4 +1,4 @@
--- The loop that joins the LEAF states of a value. What is no number matches no LEAF, and leaves the set as it is.
+-- The loop that joins the LEAF states of a value. Where there is none, the set is left as it is.
 use mathlib.Core.Path.{_≡_, refl, sym, _∙_, ap}
 use mathlib.Core.Bool.{Bool, true, false, _||_, or-true, or-false}
 use mathlib.Core.List.{List}

@@ -10,7 +10,6 @@ ghost use Rattle.lists.specs.Lending.{was, left};
 ghost use Rattle.rules.specs.State.{fits as fitting};
 ghost use Rattle.rules.specs.Book.{mostStates};
 ghost use Rattle.rules.specs.Sets.{setWidth, has as member, either, isLeafOf, leavesOf, completes, givesStep, workOut};
-ghost use Rattle.rules.specs.Memory.{questionWidth, questionIn};
 ghost use Rattle.rules.specs.Match.Settle.{Inside};
 ghost use Rattle.book_plan.specs.Plan.{planState, statesIn, Planned};
 ghost use Rattle.number_text.specs.Meant.{meant};
@@ -46,7 +45,7 @@ fn join_leaf(kind: u64, x: u64, y: u64, value: Value, k: usize, set: &mut [u64])
     }
 }
 
-// Joins the LEAF states that the value makes match; a value that is no number makes none match.
+// Joins the LEAF states that the value makes match; isLeafOf says which they are.
 pub fn leaves(plan: &[u64], value: Value, set: &mut [u64])
     requires { ⌜ Planned (now plan) × (length (now set) ≡ setWidth) ⌝ }
     ensures { λ _. ⌜ left set ≡ either (was set) (leavesOf (statesIn (was plan)) (meant value)) ⌝ }
@@ -144,17 +143,10 @@ fn work_in(plan: &[u64], asked: &[u64], label: u64, set: &mut [u64], out: &mut [
 }
 
 // Works a question out: a set's numbers and a label.
-pub fn work_out(plan: &[u64], q: &[u64], out: &mut [u64])
-    requires { ⌜ Planned (now plan) × (length (now q) ≡ questionWidth) × (length (now out) ≡ setWidth) ⌝ }
-    ensures { λ _. ⌜ left out ≡ workOut (statesIn (was plan)) (questionIn (was q)) ⌝ }
+pub fn work_out(plan: &[u64], asked: &[u64], label: u64, out: &mut [u64])
+    requires { ⌜ Planned (now plan) × (setWidth ≤ length (now asked)) × (length (now out) ≡ setWidth) ⌝ }
+    ensures { λ _. ⌜ left out ≡ workOut (statesIn (was plan)) (record { states = was asked; label = label }) ⌝ }
 {
     let mut set = [0u64; set_bits::WIDTH];
-    let label = q[set_bits::WIDTH];
-    work_in(
-        plan,
-        &q[0..set_bits::WIDTH],
-        label,
-        &mut set[0..set_bits::WIDTH],
-        out,
-    );
+    work_in(plan, asked, label, &mut set[0..set_bits::WIDTH], out);
 }

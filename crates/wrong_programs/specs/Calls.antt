@@ -7,7 +7,7 @@ use native.Mathlib.Omega.{arith}
 use lib.ListN.{getD, replicate}
 use Rattle.rules.specs.Book.{statesOf, meaningOf}
 use Rattle.rules.specs.Message.{Outcome, message}
-use Rattle.rules.specs.Memory.{slotWidth, nine}
+use Rattle.rules.specs.Memory.{slotWidth, keyOf}
 use Rattle.rules.specs.Pass.{Carried, answerRow}
 use Rattle.rules.specs.Run.{rowWidth, workspaceWidth, Lent, Returned}
 use Rattle.rules.specs.ASmallDay.Examples.{runShown, full}
@@ -19,7 +19,7 @@ use Rattle.wrong_programs.specs.Runs.{workingOut, wrong, emptyTwo, askin
 -- ── the inner call ──
 -- asked of the small day's book what the wrong slot asks
 abbrev pub oneQuestion : QuestionLent
-oneQuestion = record { book = Small.book; question = nine emptyTwo; room = replicate 8 0; kept = wrong }
+oneQuestion = record { book = Small.book; question = keyOf emptyTwo; room = replicate 8 0; kept = wrong }
 
 abbrev pub workedReply : QuestionReturned
 workedReply = record { refusal = 0; reply = workingOut (statesOf Small.book) emptyTwo wrong }

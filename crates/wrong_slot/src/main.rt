@@ -46,10 +46,20 @@ fn put_slots(memory: &[u64])
     put_part(b"slot", memory, memory_slots::SLOT, 2 * memory_slots::SLOT);
 }
 
+// The wrong answer in slot 1.
+fn fill_it(memory: &mut [u64])
+    requires { ⌜ 2 * slotWidth ≤ length (now memory) ⌝ }
+{
+    let mut q = [0u64; memory_slots::QUESTION];
+    q[memory_slots::LABEL] = 2;
+    let answer = [FULL; memory_slots::ANSWER];
+    memory_slots::keep(memory, 0, &q, &answer);
+}
+
 // The inner call, asked what slot 1 asks.
 fn ask_it(book: &[u8], memory: &mut [u64]) {
     let mut q = [0u64; memory_slots::QUESTION];
-    q[set_bits::WIDTH] = 2;
+    q[memory_slots::LABEL] = 2;
     let mut answer = [0u64; set_bits::WIDTH];
     let r = memory_question::answer_question(book, memory, 1, 5, &q, &mut answer);
     put_part(b"inner", &[r.refusal, r.anew, r.filled as u64], 0, 3);
@@ -76,15 +86,7 @@ fn main() {
     let book =
         b"\x01\x00\x0a\x00\x00\x00\x0a\x00\x03\x00\x05\x00\x01\x00\x01\x00\x00\x00\x05\x00\x03\x00\x02\x00\x00\x00\x00\x00\x00\x00\x00\x00\x00\x00";
     let mut memory = [0u64; 2 * memory_slots::SLOT];
-    memory[8] = 2;
-    memory[9] = FULL;
-    memory[10] = FULL;
-    memory[11] = FULL;
-    memory[12] = FULL;
-    memory[13] = FULL;
-    memory[14] = FULL;
-    memory[15] = FULL;
-    memory[16] = FULL;
+    fill_it(&mut memory);
     ask_it(book, &mut memory);
     put_slots(&memory);
     pass_it(book, &mut memory);

@@ -25,7 +25,7 @@ use Rattle.rules.specs.DayFile.{messageCount, messageStart, messageLength, mess
 use Rattle.rules.specs.Tree.{Forest, childless, tree, Content}
 use Rattle.rules.specs.Match.{matches, filtersWhere, acceptedFilters, MatchRule}
 use Rattle.rules.specs.Sets.{Question, bitAt}
-use Rattle.rules.specs.Memory.{slotWidth, nine, slotQuestion, slotAnswer, slotsLent, Kept, firstSlot, ask, FirstToAsk, slotsWritten}
+use Rattle.rules.specs.Memory.{slotWidth, keyOf, slotQuestion, slotAnswer, slotsLent, Kept, firstSlot, ask, FirstToAsk, slotsWritten}
 use Rattle.rules.specs.Asked.{readTree, dayQuestions, firstDifferent, notKept, messageRow, HeldRight, dayNodes, treeRows}
 use Rattle.rules.specs.Message.{Event}
 use Rattle.rules.specs.Message.Place.{refused-at, refused-where}
@@ -180,8 +180,8 @@ any-memory l m g h p q = rw (p, q) (memory-apart l m)
 pub first-held : (b : List State) (q : Question) (k : Kept) (i : ℕ) → FirstToAsk (k .memory) (k .filled) q i → ask b q k ≡ record { answer = slotAnswer (k .memory) i; kept = k }
 first-held b q k i f = go (firstSlot (k .memory) (k .filled) q) refl
   where
-    asks : (j : ℕ) → slotQuestion (k .memory) j ≡ nine q → sameList (slotQuestion (k .memory) j) (nine q) ≡ true
-    asks j e = rw e (sameList-self (nine q))
+    asks : (j : ℕ) → slotQuestion (k .memory) j ≡ keyOf q → sameList (slotQuestion (k .memory) j) (keyOf q) ≡ true
+    asks j e = rw e (sameList-self (keyOf q))
 
     go : (o : Option ℕ) → firstSlot (k .memory) (k .filled) q ≡ o → ask b q k ≡ record { answer = slotAnswer (k .memory) i; kept = k }
     go none u = absurd (true≢false (sym (asks i (f .asks)) ∙ slot-none (k .memory) (k .filled) q u i (f .filled)))

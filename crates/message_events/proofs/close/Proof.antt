@@ -1,5 +1,4 @@
 use Rattle.message_events.specs.Laws.{close-is}
-use Rattle.message_levels.specs.Laws.{question-long}
 use borrow.Author.Needs.{needs}
 use Rattle.message_events.proofs.close.Statement.{statement}
 use Rattle.message_events.proofs.close.Tie as tie
@@ -10,7 +9,7 @@ close-spec =
     (tie.spec
     (λ c κs. search needs)  -- question-of-requires
     (λ c. search needs)  -- slice-aggregate-ask
-    (λ c κs. (search needs, (search (question-long, needs), search needs)))  -- ask-requires
+    (λ c κs. (search needs, (search needs, search needs)))  -- ask-requires
     (λ c. search needs)  -- sub-join-at
     (λ c. search needs)  -- slice-aggregate-join-at
     (λ c κs. search needs)  -- join-at-requires

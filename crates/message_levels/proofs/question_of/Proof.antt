@@ -13,4 +13,4 @@ question-of-spec =
     (λ c. search needs)  -- sub-result
     (λ c. search needs)  -- part-result-start
     (λ c. search needs)  -- part-result-end
-    (λ c. search (question-lent, needs)))  -- returns
+    (λ c. (search (question-lent, needs), search needs)))  -- returns

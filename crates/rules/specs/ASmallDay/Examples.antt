@@ -16,7 +16,7 @@ use Rattle.rules.specs.Value.{stripStart, stripBefore, stripEnd, digitsF
 use Rattle.rules.specs.Match.{settle, someChild, matches, filtersWhere, acceptedFilters}
 use Rattle.rules.specs.Message.{firstEvent, startRefusal, textRefusal, endRefusal, lastRefusal, events, message}
 use Rattle.rules.specs.Sets.{testEach, setOf, noStates, either, leavesOf, completed, workOut, Question}
-use Rattle.rules.specs.Memory.{slotWidth, slotQuestion, slotAnswer, slotsLent, firstSlot, keep, replyBy, ask}
+use Rattle.rules.specs.Memory.{slotWidth, keyOf, slotQuestion, slotAnswer, slotsLent, firstSlot, keep, replyBy, ask}
 use Rattle.rules.specs.Pass.{passMessage, answerRow, passTo}
 use Rattle.rules.specs.Run.{workspaceWidth, Lent, Returned, runRefusal, passDay, run}
 use Rattle.rules.specs.Asked.{readTree, questionOf, messageQuestions, questionsTo, dayQuestions, isAmong, without, different, firstDifferent, notKept, treeRows}
@@ -37,7 +37,7 @@ lending e = record {
   day = e .day;
   memory = replicate (slotWidth * e .slots + 3) 7;
   answers = replicate (3 * messageCount (e .day) + 2) 9;
-  workspace = replicate 652 5;
+  workspace = replicate (workspaceWidth + 2) 5;
 }
 
 -- refusal and counts, the whole of the answers, the last numbers of the workspace, the memory past the filled slots
@@ -87,13 +87,13 @@ full = 18446744073709551615
 
 -- the slot says of an empty element 2 that it makes all 512 match
 abbrev pub wrongSlot : List ℕ
-wrongSlot = noStates ++ 2 ∷ replicate 8 full
+wrongSlot = keyOf (record { states = noStates; label = 2 }) ++ replicate 8 full
 
 -- element 1 that holds an empty element 2, read from that slot: the next question asks exactly the eight full numbers
 pub wrong-answer-asked : slotQuestion
     ((passMessage (meaningOf book) (1 ∷ 1 ∷ 0 ∷ 1 ∷ 2 ∷ 0 ∷ 3 ∷ 2 ∷ 0 ∷ 3 ∷ 1 ∷ 0 ∷ [])
     (record { asked = 0; kept = record { memory = wrongSlot ++ replicate slotWidth 7; anew = 0; filled = 1 } })) .state .kept .memory) 1
-    ≡ replicate 8 full ++ 1 ∷ []
+    ≡ keyOf (record { states = replicate 8 full; label = 1 })
 unfolding runShown
 wrong-answer-asked = refl
 

@@ -7,12 +7,13 @@ use native.Mathlib.Nat.{not-suc-le-zero}
 use native.Mathlib.Omega.{arith}
 use lib.Dec.{eqb, ltb}
 use lib.ListN.{length, getD, take, length-append, length-take}
-use lib.Seq.{take-at, take-all, take-nil, take-append-le, getD-at}
+use lib.Seq.{take-all, take-nil, take-append-le}
 use borrow.Author.Tests.{eqb-true, eq-eqb, ltb-true, ltb-false, le-ltb}
 use Rattle.lists.specs.Choice.{pick}
 use Rattle.lists.specs.Same.{sameList}
 use Rattle.rules.specs.Sets.{Question}
-use Rattle.rules.specs.Memory.{nine}
+use Rattle.rules.specs.Memory.{keyOf}
+use Rattle.rules.specs.Memory.Key.{key-eq}
 use Rattle.rules.specs.Asked.{sameQuestion, isAmong, without, different, firstDifferent}
 
 -- ── the same question ──
@@ -30,21 +31,11 @@ unfolding sameList
 sameList-self [] = refl
 sameList-self (x ∷ xs) = rw (eq-eqb x x refl) (sameList-self xs)
 
--- nine numbers say which question it is
-pub nine-eq : (p q : Question) → nine p ≡ nine q → p ≡ q
-nine-eq p q e = go (omega (arith, simp length-append at (ap length e)))
-  where
-    go : length (q .states) ≡ length (p .states) → p ≡ q
-    go l =
-        let s : p .states ≡ q .states = sym (take-at (p .states) _ _ refl) ∙ ap (take (length (p .states))) e ∙ take-at (q .states) _ _ l in
-        let x : p .label ≡ q .label = sym (getD-at (p .states) _ [] 0 _ refl) ∙ ap (λ w. getD w (length (p .states)) 0) e ∙ getD-at (q .states) _ [] 0 _ l in
-        λ i. record { states = s i; label = x i }
-
 pub same-eq : (p q : Question) → sameQuestion p q ≡ true → p ≡ q
-same-eq p q e = nine-eq p q (sameList-eq (nine p) (nine q) e)
+same-eq p q e = key-eq p q (sameList-eq (keyOf p) (keyOf q) e)
 
 pub same-self : (q : Question) → sameQuestion q q ≡ true
-same-self q = sameList-self (nine q)
+same-self q = sameList-self (keyOf q)
 
 pub same-sym : (p q : Question) → sameQuestion p q ≡ sameQuestion q p
 same-sym p q = go (sameQuestion p q) (sameQuestion q p) (λ e. turned p q e) (λ e. turned q p e)

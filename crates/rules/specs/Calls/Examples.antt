@@ -5,8 +5,8 @@ use mathlib.Core.Path.{_≡_, refl}
 use mathlib.Core.List.{List, [], _∷_, _++_, map}
 use Prim.Native.Nat.{ℕ, _-_, _^_, _+_}
 use lib.ListN.{replicate, take}
-use Rattle.rules.specs.Memory.{slotWidth}
-use Rattle.rules.specs.Pass.Examples.{book, day, numbers, slot}
+use Rattle.rules.specs.Memory.{questionWidth as w, slotWidth, keyOf}
+use Rattle.rules.specs.Pass.Examples.{book, day, numbers, asks, slot}
 use Rattle.rules.specs.Run.{workspaceWidth, Lent}
 use Rattle.rules.specs.Run.Examples.{lending, ran, kept}
 use Rattle.rules.specs.Calls.{
@@ -72,7 +72,7 @@ passes = refl
 abbrev pub asking : List ℕ → ℕ → ℕ → ℕ → ℕ → QuestionLent
 asking b n k anew filled = record {
   book = b;
-  question = take n (numbers 4 ++ 2 ∷ 0 ∷ []);
+  question = take n (keyOf (asks 4 2) ++ 0 ∷ []);
   room = replicate k 9;
   kept = record { memory = slot 4 3 0 ++ (slot 4 2 40 ++ 6 ∷ []); anew = anew; filled = filled };
 }
@@ -84,9 +84,9 @@ refusalOf l = questionRefusal l
 -- 18: the question is not nine numbers, or the room for the answer not eight; 14: more slots filled than lent; 19: a
 -- count of 2^63; of several the first in this order, and the book's before all
 pub questions-off : map refusalOf (
-    asking book 9 8 0 0 ∷ asking book 8 8 0 0 ∷ asking book 10 8 0 0 ∷ asking book 9 7 0 0 ∷ asking book 9 9 0 0 ∷
-    asking book 9 8 0 2 ∷ asking book 9 8 0 3 ∷ asking book 9 8 (2 ^ 63 - 1) 0 ∷ asking book 9 8 (2 ^ 63) 0 ∷
-    asking book 8 8 0 3 ∷ asking book 9 8 (2 ^ 63) 3 ∷ asking [] 8 8 0 3 ∷ [])
+    asking book w 8 0 0 ∷ asking book (w - 1) 8 0 0 ∷ asking book (w + 1) 8 0 0 ∷ asking book w 7 0 0 ∷ asking book w 9 0 0 ∷
+    asking book w 8 0 2 ∷ asking book w 8 0 3 ∷ asking book w 8 (2 ^ 63 - 1) 0 ∷ asking book w 8 (2 ^ 63) 0 ∷
+    asking book (w - 1) 8 0 3 ∷ asking book w 8 (2 ^ 63) 3 ∷ asking [] (w - 1) 8 0 3 ∷ [])
     ≡ 0 ∷ 18 ∷ 18 ∷ 18 ∷ 18 ∷ 0 ∷ 14 ∷ 0 ∷ 19 ∷ 18 ∷ 14 ∷ 1 ∷ []
 unfolding refusalOf
 questions-off = refl
@@ -102,8 +102,8 @@ returned e a m anew filled = record {
 abbrev pub memory : List ℕ
 memory = slot 4 3 0 ++ (slot 4 2 40 ++ 6 ∷ [])
 
-pub answers : map answerQuestion (asking book 9 8 30 2 ∷ asking book 9 8 30 1 ∷ asking book 9 7 30 2 ∷
-    asking [] 9 8 30 2 ∷ [])
+pub answers : map answerQuestion (asking book w 8 30 2 ∷ asking book w 8 30 1 ∷ asking book w 7 30 2 ∷
+    asking [] w 8 30 2 ∷ [])
     ≡ returned 0 (numbers 40) memory 30 2 ∷
     returned 0 (numbers 2) (slot 4 3 0 ++ (slot 4 2 2 ++ 6 ∷ [])) 31 2 ∷
     returned 18 (replicate 7 9) memory 0 0 ∷

@@ -16,10 +16,11 @@ use Rattle.lists.specs.Parts.{part, patch}
 use Rattle.lists.specs.Same.{sameList}
 use Rattle.rules.specs.State.{State}
 use Rattle.rules.specs.Sets.{setWidth, Question, workOut}
-use Rattle.rules.specs.Memory.{questionWidth, slotWidth, nine, slotQuestion, slotAnswer, slotsLent, Kept, firstSlot, Reply, ask, FirstToAsk, slotOf, slotsWritten, askAll}
+use Rattle.rules.specs.Memory.{questionWidth, slotWidth, keyOf, slotQuestion, slotAnswer, slotsLent, Kept, firstSlot, Reply, ask, FirstToAsk, slotOf, slotsWritten, askAll}
 use Rattle.rules.specs.Asked.{sameQuestion, isAmong, without, different, firstDifferent, notKept}
-use Rattle.rules.specs.Asked.Different.{among-at, among-none, nine-eq, keptWith, first-none, first-few, first-snoc}
-use Rattle.rules.specs.Memory.Laws.{slot-some, slot-none, kept-answer, fresh-kept, fresh-full, lent-fits, lent-same, workOut-long, nine-long, slot-long, Onward, onward-same, onward-then, ask-onward}
+use Rattle.rules.specs.Asked.Different.{among-at, among-none, keptWith, first-none, first-few, first-snoc}
+use Rattle.rules.specs.Memory.Key.{key-long, key-eq}
+use Rattle.rules.specs.Memory.Laws.{slot-some, slot-none, kept-answer, fresh-kept, fresh-full, lent-fits, lent-same, workOut-long, slot-long, Onward, onward-same, onward-then, ask-onward}
 
 pub askAll-append : (b : List State) (qs rs : List Question) (k : Kept) → askAll b (qs ++ rs) k ≡ askAll b rs (askAll b qs k)
 unfolding askAll
@@ -105,17 +106,17 @@ module _ (b : List State) where
       rw (append-assoc (slotOf b k) (slotsWritten b ks) rest, s)
       (ap (take n) (drop-append-add (slotOf b k) _ (slotWidth * i + a)) ∙ written-part ks rest i a n d (e .1) (omega arith) f)
 
-  pub written-question : (ks : List Question) (rest : List ℕ) (i : ℕ) (d : Question) → Eight ks → i < length ks → slotQuestion (slotsWritten b ks ++ rest) i ≡ nine (getD ks i d)
+  pub written-question : (ks : List Question) (rest : List ℕ) (i : ℕ) (d : Question) → Eight ks → i < length ks → slotQuestion (slotsWritten b ks ++ rest) i ≡ keyOf (getD ks i d)
   unfolding slotQuestion part
   written-question ks rest i d e h =
       rw add-zero at (written-part ks rest i 0 questionWidth d e h (omega arith))
-      ∙ take-at (nine (getD ks i d)) _ questionWidth (nine-long (getD ks i d) (eight-at ks i d e h))
+      ∙ take-at (keyOf (getD ks i d)) _ questionWidth (key-long (getD ks i d) (eight-at ks i d e h))
 
   pub written-answer : (ks : List Question) (rest : List ℕ) (i : ℕ) (d : Question) → Eight ks → i < length ks → slotAnswer (slotsWritten b ks ++ rest) i ≡ workOut b (getD ks i d)
   unfolding slotAnswer part
   written-answer ks rest i d e h =
       written-part ks rest i questionWidth setWidth d e h (omega arith)
-      ∙ ap (take setWidth) (drop-at (nine (getD ks i d)) _ questionWidth (nine-long (getD ks i d) (eight-at ks i d e h)))
+      ∙ ap (take setWidth) (drop-at (keyOf (getD ks i d)) _ questionWidth (key-long (getD ks i d) (eight-at ks i d e h)))
       ∙ take-all setWidth (workOut b (getD ks i d)) (rw workOut-long (omega arith))
 
   -- one slot more
@@ -162,13 +163,13 @@ module _ (b : List State) (m : List ℕ) where
       go : (o : Option ℕ) → firstSlot M (length ks) q ≡ o → ask b q (holding b m ks n) ≡ answered ks q (pick (isAmong q ks) n (n + 1)) (slotsLent m)
       go (some i) u =
           let s : FirstToAsk M (length ks) q i = slot-some M (length ks) q i u in
-          let k : getD ks i q ≡ q = nine-eq _ _ (sym (written-question b ks _ i q e (s .filled)) ∙ s .asks) in
+          let k : getD ks i q ≡ q = key-eq _ _ (sym (written-question b ks _ i q e (s .filled)) ∙ s .asks) in
           let g : isAmong q ks ≡ true = rw k at (among-at ks i q (s .filled)) in
           let w : slotAnswer M i ≡ workOut b q = written-answer b ks _ i q e (s .filled) ∙ ap (workOut b) k in
           kept-answer b q (holding b m ks n) i u ∙ rw (w, g)
       go none u =
           let g : isAmong q ks ≡ false
-          = among-none ks q q (λ i l. ap (λ w. sameList w (nine q)) (sym (written-question b ks _ i q e l)) ∙ slot-none M (length ks) q u i l) in
+          = among-none ks q q (λ i l. ap (λ w. sameList w (keyOf q)) (sym (written-question b ks _ i q e l)) ∙ slot-none M (length ks) q u i l) in
           rw g (fresh u (ltb (length ks) (slotsLent m)) refl)
 
   -- from the first C different of qs to those of qs and q

@@ -19,17 +19,17 @@ use Rattle.lists.specs.Same.{sameList}
 use Rattle.rules.specs.State.{State}
 use Rattle.rules.specs.Sets.{setWidth, Question, workOut}
 use Rattle.rules.specs.Sets.Laws.{setOf-long}
-use Rattle.rules.specs.Memory.{questionWidth, slotWidth, nine, slotQuestion, slotAnswer, slotsLent, Kept, firstSlot, keep, replyBy, ask, FirstToAsk, slotOf}
+use Rattle.rules.specs.Memory.{slotWidth, keyOf, slotQuestion, slotAnswer, slotsLent, Kept, firstSlot, keep, replyBy, ask, FirstToAsk, slotOf}
 use Rattle.rules.specs.Asked.Different.{sameList-eq}
 
 -- none found: none of them asks it
-pub slot-none : (m : List ℕ) (n : ℕ) (q : Question) → firstSlot m n q ≡ none → (i : ℕ) → i < n → sameList (slotQuestion m i) (nine q) ≡ false
+pub slot-none : (m : List ℕ) (n : ℕ) (q : Question) → firstSlot m n q ≡ none → (i : ℕ) → i < n → sameList (slotQuestion m i) (keyOf q) ≡ false
 unfolding firstSlot pick
 slot-none m zero q e i h = absurd (not-suc-le-zero h)
-slot-none m (suc n) q e i h = go (firstSlot m n q) (sameList (slotQuestion m n) (nine q)) refl (λ u l. slot-none m n q u i l) e
+slot-none m (suc n) q e i h = go (firstSlot m n q) (sameList (slotQuestion m n) (keyOf q)) refl (λ u l. slot-none m n q u i l) e
   where
-    go : (o : Option ℕ) (t : Bool) → sameList (slotQuestion m n) (nine q) ≡ t → (o ≡ none → i < n → sameList (slotQuestion m i) (nine q) ≡ false) →
-        _≡_ {A = Option ℕ} (elim o [ some i ↦ some i | none ↦ pick t (some n) none ]) none → sameList (slotQuestion m i) (nine q) ≡ false
+    go : (o : Option ℕ) (t : Bool) → sameList (slotQuestion m n) (keyOf q) ≡ t → (o ≡ none → i < n → sameList (slotQuestion m i) (keyOf q) ≡ false) →
+        _≡_ {A = Option ℕ} (elim o [ some i ↦ some i | none ↦ pick t (some n) none ]) none → sameList (slotQuestion m i) (keyOf q) ≡ false
     go (some j) t d ih e = absurd (Option·some-ne-none j e)
     go none true d ih e = absurd (Option·some-ne-none n e)
     go none false d ih e = elim (decLt i n) [
@@ -40,9 +40,9 @@ slot-none m (suc n) q e i h = go (firstSlot m n q) (sameList (slotQuestion m n) 
 pub slot-some : (m : List ℕ) (n : ℕ) (q : Question) (i : ℕ) → firstSlot m n q ≡ some i → FirstToAsk m n q i
 unfolding firstSlot pick
 slot-some m zero q i e = absurd (Option·none-ne-some i e)
-slot-some m (suc n) q i e = go (firstSlot m n q) refl (sameList (slotQuestion m n) (nine q)) refl (λ u. slot-some m n q i u) e
+slot-some m (suc n) q i e = go (firstSlot m n q) refl (sameList (slotQuestion m n) (keyOf q)) refl (λ u. slot-some m n q i u) e
   where
-    go : (o : Option ℕ) → firstSlot m n q ≡ o → (t : Bool) → sameList (slotQuestion m n) (nine q) ≡ t → (o ≡ some i → FirstToAsk m n q i) →
+    go : (o : Option ℕ) → firstSlot m n q ≡ o → (t : Bool) → sameList (slotQuestion m n) (keyOf q) ≡ t → (o ≡ some i → FirstToAsk m n q i) →
         _≡_ {A = Option ℕ} (elim o [ some i ↦ some i | none ↦ pick t (some n) none ]) (some i) → FirstToAsk m (suc n) q i
     go (some j) u t d ih e = let f : FirstToAsk m n q i = ih e in record { filled = omega (arith, f .filled); asks = f .asks; first = f .first }
     go none u true d ih e =
@@ -60,7 +60,7 @@ module _ (b : List State) (q : Question) (k : Kept) where
       ask b q k
       ≡ record {
         answer = workOut b q;
-        kept = record { memory = patch (k .memory) (slotWidth * k .filled) (nine q ++ workOut b q); anew = k .anew + 1; filled = k .filled + 1 };
+        kept = record { memory = patch (k .memory) (slotWidth * k .filled) (keyOf q ++ workOut b q); anew = k .anew + 1; filled = k .filled + 1 };
       }
   unfolding ask replyBy keep
   fresh-kept e h = rw (e, lt-ltb _ _ h, pick-true)
@@ -83,9 +83,6 @@ lent-same m m′ e = rw e
 pub workOut-long : (b : List State) (q : Question) → length (workOut b q) ≡ setWidth
 unfolding workOut
 workOut-long b q = setOf-long b _
-
-pub nine-long : (q : Question) → length (q .states) ≡ setWidth → length (nine q) ≡ questionWidth
-nine-long q e = rw (length-append, e)
 
 pub slot-long : (b : List State) (q : Question) → length (q .states) ≡ setWidth → length (slotOf b q) ≡ slotWidth
 slot-long b q e = simp (length-append, workOut-long, e)

@@ -38,8 +38,8 @@ use Rattle.rules.specs.Message.{
   message,
 }
 use Rattle.rules.specs.Message.Examples.{begins, says, ends, all, mark, child}
-use Rattle.rules.specs.Sets.{testEach, setOf, either, leavesOf, completed, workOut}
-use Rattle.rules.specs.Memory.{slotWidth, slotQuestion, slotAnswer, slotsLent, firstSlot, keep, replyBy, ask}
+use Rattle.rules.specs.Sets.{Question, testEach, setOf, either, leavesOf, completed, workOut}
+use Rattle.rules.specs.Memory.{slotWidth, keyOf, slotQuestion, slotAnswer, slotsLent, firstSlot, keep, replyBy, ask}
 use Rattle.rules.specs.Pass.{Carried, passMessage, answerRow, Passed, passTo}
 
 -- ids 7 and 8: STEP 1→1, STEP 2→2, LEAF = 7; then NOT 1, STEP 1→2, TRUE
@@ -53,9 +53,11 @@ numbers w = w ∷ replicate 7 0
 abbrev pub carried : ℕ → ℕ → ℕ → List ℕ → Carried
 carried asked anew filled m = record { asked = asked; kept = record { memory = m; anew = anew; filled = filled } }
 
--- a slot: "asked set (8), label (1), answer (8)"
+abbrev pub asks : ℕ → ℕ → Question
+asks w x = record { states = numbers w; label = x }
+
 abbrev pub slot : ℕ → ℕ → ℕ → List ℕ
-slot w x a = numbers w ++ x ∷ numbers a
+slot w x a = keyOf (asks w x) ++ numbers a
 
 unfoldable pub passed : List ℕ → Carried → Outcome (List ℕ) Carried
 unfolding passMessage message events firstEvent startRefusal textRefusal endRefusal lastRefusal firstOf pick textValue

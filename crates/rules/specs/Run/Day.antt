@@ -18,7 +18,7 @@ use Rattle.rules.specs.Book.{mostStates, filterCount, bodySize, statesBe
 use Rattle.rules.specs.DayFile.{messageCount, messageBody}
 use Rattle.rules.specs.Tree.{Node}
 use Rattle.rules.specs.Sets.{Question, workOut}
-use Rattle.rules.specs.Memory.{slotWidth, nine, slotsLent, slotsWritten, askAll}
+use Rattle.rules.specs.Memory.{slotWidth, keyOf, slotsLent, slotsWritten, askAll}
 use Rattle.rules.specs.Pass.{Passed, passMessage, answerRow, passTo}
 use Rattle.rules.specs.Run.{rowWidth, workspaceWidth, Lent, Returned, runRefusal, passDay, atFirst, run, withMemory}
 use Rattle.rules.specs.Asked.{readTree, questionOf, messageQuestions, questionsTo, dayQuestions, sameQuestion, isAmong, different, firstDifferent, notKept, messageRow, nodesTo, HeldRight, dayNodes, treeRows}
@@ -165,7 +165,7 @@ slot-right b few ns C rest i h =
       place = r .1;
       closed = r .2;
       is-node = r .3;
-      asks = written-question (b .states) ks rest i d e h ∙ ap nine (r .4);
+      asks = written-question (b .states) ks rest i d e h ∙ ap keyOf (r .4);
       answers = written-answer (b .states) ks rest i d e h ∙ ap (workOut (b .states)) (r .4) ∙ work-is-right b few (r .0);
     }
 

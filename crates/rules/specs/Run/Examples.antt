@@ -1,7 +1,7 @@
 -- Runs refused by what is lent and one that is accepted, proved by computation. Section "Refusal numbers".
 use mathlib.Core.Path.{_≡_, refl}
 use mathlib.Core.List.{List, [], _∷_, _++_, map}
-use Prim.Native.Nat.{ℕ, _+_, _-_}
+use Prim.Native.Nat.{ℕ, _+_, _*_, _-_}
 use lib.ListN.{replicate, take}
 use Rattle.rules.specs.Memory.{questionWidth, slotWidth}
 use Rattle.lists.specs.Below.{someBelow, flags}
@@ -46,7 +46,7 @@ abbrev pub lending : List ℕ → List ℕ → ℕ → ℕ → Lent
 lending b d answers workspace = record {
   book = b;
   day = d;
-  memory = replicate 35 6;
+  memory = replicate (2 * slotWidth + 1) 6;
   answers = replicate answers 9;
   workspace = replicate workspace 5;
 }
@@ -92,7 +92,7 @@ unfoldable pub ran : Lent → Returned
 unfolding refusalOf run passDay passTo answerRow filtersWhere flags messageBody
 ran l = run l
 
-pub accepted : ran (lending book day 10 (workspaceWidth + 1)) ∷ passDay (lending book day 10 (workspaceWidth + 1)) (carried 40 30 0 (replicate 35 6)) ∷
+pub accepted : ran (lending book day 10 (workspaceWidth + 1)) ∷ passDay (lending book day 10 (workspaceWidth + 1)) (carried 40 30 0 (replicate (2 * slotWidth + 1) 6)) ∷
     [] ≡ after 5 3 ∷ after 45 33 ∷ []
 unfolding ran
 accepted = refl
@@ -104,7 +104,7 @@ kept e answers workspace = record {
   asked = 0;
   anew = 0;
   filled = 0;
-  memory = replicate 35 6;
+  memory = replicate (2 * slotWidth + 1) 6;
   answers = replicate answers 9;
   workspace = replicate workspace 5;
 }
