@@ -4,6 +4,7 @@
 - crates.txt lists, for each crate, the crates that its files name and no other.
 - No line of a contract, and no line of code or comment beside it, has more than 120 columns.
 - Nothing is imported that the file does not name, and each need of a proof has its name behind it.
+- Each line of a must-fail edit is applied, and its first line says what it is.
 - Every link of a page leads to a file or a folder, and every heading that it names is there.
 """
 import glob
@@ -55,7 +56,7 @@ def crates_as_listed():
 def narrow():
     for path in under("crates", ".rt"):
         for number, line in enumerate(read(path).split("\n"), 1):
-            if len(line) > WIDTH and 'b"' not in line:
+            if len(line) > WIDTH:
                 yield "%s:%d: %d columns" % (path, number, len(line))
 
 
@@ -92,6 +93,17 @@ def needs_named():
                 yield "%s:%d: a need without its name" % (path, number)
 
 
+def edits_applied():
+    """An edit's `old:` and `new:` are a line each, and what stands on any other line is passed over."""
+    for path in under("crates", ".edit"):
+        lines = read(path).rstrip("\n").split("\n")
+        for number, line in enumerate(lines, 1):
+            if not line.startswith(("# ", "file: ", "old: ", "new: ")):
+                yield "%s:%d: a line that is passed over" % (path, number)
+        if not lines[0].startswith("# "):
+            yield "%s: no first line that says which wrong program it is" % path
+
+
 def anchors(text):
     heads = re.findall(r"^#+ (.*)$", text, re.M)
     return {re.sub(r"[^\w\- ]", "", head.lower()).replace(" ", "-") for head in heads}
@@ -109,12 +121,13 @@ def links():
 
 
 def main():
-    wrong = list(crates_as_listed()) + list(narrow()) + list(imports_named()) + list(needs_named()) + list(links())
+    wrong = list(crates_as_listed()) + list(narrow()) + list(imports_named())
+    wrong += list(needs_named()) + list(edits_applied()) + list(links())
     for line in wrong:
         print("house: " + line)
     if wrong:
         sys.exit("house: %d faults" % len(wrong))
-    print("house: crates.txt, columns, imports, names of needs and links are as they should be")
+    print("house: crates.txt, columns, imports, needs, edits and links are as they should be")
 
 
 if __name__ == "__main__":

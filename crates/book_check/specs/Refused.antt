@@ -91,3 +91,5 @@ roomy b e h = room b (sym e ∙ h) .1
 
 pub bare : (b : List ℕ) {t : Bool} → t ≡ bookShort b → t ≡ false → 2 ≤ length b
 bare b e h = room b (sym e ∙ h) .0
+
+pub ruleset book-laws = (bare, roomy, refused-1, refused-2, refused-3, refused-4, refused-5, refused-6, refused-7, accepts)

@@ -2,11 +2,12 @@
 -- LEAF: relation, the constant's 32 bits. AND, OR: successors through the book. NOT: successor. STEP: label, successor.
 use mathlib.Core.Path.{_≡_, ap}
 use mathlib.Core.List.{List}
-use Prim.Native.Nat.{ℕ, _+_, _*_, _/_, _^_, _<_, _≤_}
+use Prim.Native.Nat.{ℕ, _+_, _-_, _*_, _/_, _^_, _<_, _≤_}
+use native.Mathlib.Nat.{sub-zero}
 use native.Mathlib.Omega.{arith}
 use native.Mathlib.Decide.{ℕ-discrete}
 use lib.Dec.{eqb}
-use lib.ListN.{length, getD}
+use lib.ListN.{length, getD, take}
 use borrow.Author.Tests.{ne-eqb}
 use Rattle.lists.specs.Choice.{pick}
 use Rattle.lists.specs.Below.{upTo}
@@ -96,6 +97,10 @@ state-other k x y a b c d e = elim (ℕ-discrete k 0) [
   | yes z ↦ rw z
   | no z ↦ simp (ne-eqb _ _ z, ne-eqb _ _ a, ne-eqb _ _ b, ne-eqb _ _ c, ne-eqb _ _ d, ne-eqb _ _ e)
 ]
+
+-- a plan at a room's start, lent as a part of it
+pub plan-lent : (p book : List ℕ) (n : ℕ) → PlanOf (take n p) book → PlanOf (take (n - 0) p) book
+plan-lent p book n h = rw (sub-zero n) h
 
 pub states-long : (p : List ℕ) → length (statesIn p) ≡ stateCount p
 unfolding statesIn

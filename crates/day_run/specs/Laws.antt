@@ -3,10 +3,9 @@ use mathlib.Core.Path.{_≡_, refl, sym, ap, _∙_}
 use mathlib.Core.Bool.{true, false, _||_}
 use mathlib.Core.List.{List, [], _∷_, _++_}
 use Prim.Native.Nat.{ℕ, zero, suc, _+_, _-_, _*_, _<_, _≤_}
-use native.Mathlib.Nat.{sub-zero}
 use native.Mathlib.Omega.{arith}
 use lib.Dec.{eqb, leb}
-use lib.ListN.{length, take}
+use lib.ListN.{length}
 use borrow.Author.Tests.{eq-eqb, ne-eqb, lt-ltb, le-ltb, ltb-false, leb-false}
 use Rattle.lists.specs.Choice.{pick}
 use Rattle.lists.specs.Checks.{firstOf}
@@ -19,8 +18,6 @@ use Rattle.rules.specs.Run.{rowWidth, workspaceWidth, Lent, lentChecks, runChec
 use Rattle.rules.specs.Run.Laws.{no-zero, run-refused, run-accepted}
 use Rattle.rules.specs.Calls.{countLimit, counts, countChecks, passRefusal, passFrom}
 use Rattle.rules.specs.Calls as rules
-use Rattle.book_planner.specs.Make.{Made}
-use Rattle.book_plan.specs.Plan.{PlanOf}
 use Rattle.memory_ask.specs.declared.Counts.{Counts}
 use Rattle.memory_ask.specs.Ask.{carriedIn}
 use Rattle.day_pass.specs.Passing.{lentOf, passReturned, day-two}
@@ -176,10 +173,6 @@ module _ (book day memory answers ws : List ℕ) where
           passReturned r m a w ≡ passDay lent (carriedIn memory begun) → totalReturned t m a w ≡ passFrom lent from
       unfolding passFrom
       from-passes r t m a w z i e = rw i (e ∙ sym (pick-true _ _ _ (eq-eqb _ _ (sym told ∙ z))))
-
--- the plan of the book, lent as its part of the room
-pub plan-lent : (book room p : List ℕ) (n : ℕ) → Made book room p n → PlanOf (take (n - 0) p) book
-plan-lent book room p n m = rw (sub-zero n) (m .plan)
 
 pub two-bytes : (d : List ℕ) (n : ℕ) → n ≡ dayRefusal d → n ≡ 0 → 2 ≤ length d
 two-bytes d n e z = day-two d (sym e ∙ z)

@@ -3,7 +3,6 @@ use mathlib.Core.Path.{_≡_, refl, sym, ap, _∙_}
 use mathlib.Core.Bool.{Bool, true, false, _||_, not}
 use mathlib.Core.List.{List, [], _∷_}
 use Prim.Native.Nat.{ℕ, _-_, _≤_, _<_}
-use native.Mathlib.Nat.{sub-zero}
 use native.Mathlib.Omega.{arith}
 use lib.Dec.{eqb, leb}
 use lib.ListN.{length, take}
@@ -17,7 +16,7 @@ use Rattle.rules.specs.Sets.{setWidth, Question}
 use Rattle.rules.specs.Memory.{questionWidth, questionIn, slotsLent, Kept}
 use Rattle.rules.specs.Pass.{Carried, askNext}
 use Rattle.rules.specs.Calls.{countLimit, QuestionLent, questionChecks, questionRefusal, answerQuestion}
-use Rattle.book_plan.specs.Plan.{Planned, statesIn, PlanOf}
+use Rattle.book_plan.specs.Plan.{Planned, statesIn, PlanOf, plan-lent}
 use Rattle.memory_ask.specs.declared.Counts.{Counts}
 use Rattle.memory_ask.specs.Ask.{carriedIn, repliedIn}
 use Rattle.memory_question.specs.Question.{answeredWith, Answerable}
@@ -104,10 +103,10 @@ module _ (book w room m : List ℕ) (a f n : ℕ) (checked : n ≡ questionRefus
 -- ── `ask_alone`: the numbers of the room that are the plan are lent on, and its states are the book's ──
 module _ (book p : List ℕ) (n : ℕ) (made : PlanOf (take n p) book) where
   whole : PlanOf (take (n - 0) p) book
-  whole = rw sub-zero made
+  whole = plan-lent p book n made
 
-  pub plan-lent : Planned (take (n - 0) p)
-  plan-lent = whole .planned
+  pub planned-lent : Planned (take (n - 0) p)
+  planned-lent = whole .planned
 
   pub asks-book : (q : Question) (c : Carried) (r : List ℕ × Carried) → r ≡ askNext (statesIn (take (n - 0) p)) q c → r ≡ askNext (statesOf book) q c
   asks-book q c r e = rw (← whole .states) e

@@ -1,5 +1,6 @@
 -- The refusal table of one message: the number at a place, by what is open after the events before it and by the bytes
--- that follow; b is what the book means to it. Section "Refusal numbers": "One message, each event checked in this order". No reader has a part in it.
+-- that follow; b is what the book means to it. Section "Refusal numbers": "One message, each event checked in this
+-- order". No reader has a part in it.
 use mathlib.Core.Bool.{Bool, true, false, _||_, _&&_, not}
 use mathlib.Core.List.{List, [], _∷_}
 use Prim.Native.Nat.{ℕ, _+_}

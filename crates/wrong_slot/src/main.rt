@@ -84,7 +84,7 @@ fn pass_it(book: &[u8], memory: &mut [u64]) {
 
 fn main() {
     let book =
-        b"\x01\x00\x0a\x00\x00\x00\x0a\x00\x03\x00\x05\x00\x01\x00\x01\x00\x00\x00\x05\x00\x03\x00\x02\x00\x00\x00\x00\x00\x00\x00\x00\x00\x00\x00";
+        b"\x01\0\x0a\0\0\0\x0a\0\x03\0\x05\0\x01\0\x01\0\0\0\x05\0\x03\0\x02\0\0\0\0\0\0\0\0\0\0\0";
     let mut memory = [0u64; 2 * memory_slots::SLOT];
     fill_it(&mut memory);
     ask_it(book, &mut memory);

@@ -1,4 +1,4 @@
-use Rattle.day_run.specs.Laws.{plan-lent}
+use Rattle.book_plan.specs.Plan.{plan-lent}
 use borrow.Author.Needs.{needs}
 use Rattle.day_run.proofs.pass_with.Statement.{statement}
 use Rattle.day_run.proofs.pass_with.Tie as tie

@@ -1,4 +1,4 @@
-use Rattle.memory_question.specs.Laws.{plan-lent, asks-book}
+use Rattle.memory_question.specs.Laws.{planned-lent, asks-book}
 use borrow.Author.Needs.{needs}
 use Rattle.memory_question.proofs.ask_alone.Statement.{statement}
 use Rattle.memory_question.proofs.ask_alone.Tie as tie
@@ -16,7 +16,7 @@ ask-alone-spec =
     (λ c. search needs)  -- part-ask-end
     (λ c. search needs)  -- slice-aggregate-ask
     (λ c κs.
-    (record { planned = search (plan-lent, needs); indexed = search needs; asked = search needs; anew = search needs }, search needs))  -- ask-requires
+    (record { planned = search (planned-lent, needs); indexed = search needs; asked = search needs; anew = search needs }, search needs))  -- ask-requires
     (λ c. search needs)  -- same-length
     (λ c. search needs)  -- same-length-2
     (λ c. search (asks-book, needs)))  -- returns

@@ -264,6 +264,11 @@ pub both-bytes : map (λ (r : List ℕ). stateAt (9 ∷ 9 ∷ 9 ∷ r) 100 3) (r
 unfolding stateAt relationOf signed4 pick
 both-bytes = refl
 
+-- a kind that the table has not, which refusal 6 keeps out
+pub other-kinds : map (λ (k : ℕ). stateAt (row k 1 2 3 4) 100 0) (6 ∷ 7 ∷ 255 ∷ []) ≡ TRUE ∷ TRUE ∷ TRUE ∷ []
+unfolding stateAt relationOf signed4 pick
+other-kinds = refl
+
 -- "1 =, 2 ≠, 3 <, 4 ≤, 5 >, 6 ≥"
 pub relations-are : map relationOf (1 ∷ 2 ∷ 3 ∷ 4 ∷ 5 ∷ 6 ∷ [])
     ≡ equal ∷ differs ∷ below ∷ atMost ∷ above ∷ atLeast ∷ []
