@@ -40,11 +40,11 @@ def book(filters):
 
 
 def day(messages):
-    table, at = b"", 2 + 8 * len(messages)
+    table, at = [], 2 + 8 * len(messages)
     for body in messages:
-        table += u32(at) + u32(len(body))
+        table.append(u32(at) + u32(len(body)))
         at += len(body)
-    return u16(len(messages)) + table + b"".join(messages)
+    return u16(len(messages)) + b"".join(table + messages)
 
 
 def start(label):

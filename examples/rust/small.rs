@@ -5,6 +5,17 @@
 use std::io::{self, Write};
 use std::{env, fs, process};
 
+// As include/esquirmell.h has them.
+const SLOT_NUMBERS: usize = 17;
+const ROW_NUMBERS: usize = 3;
+const WORKSPACE_NUMBERS: usize = 650;
+
+// As the day program has them: the longest files, and what is lent.
+const BOOK_BYTES: usize = 4610;
+const DAY_BYTES: usize = 32768;
+const SLOTS: usize = 64;
+const MESSAGES: usize = 1024;
+
 #[repr(C)]
 struct Total {
     refusal: u64,
@@ -57,7 +68,7 @@ fn ids(book: &[u8], filters: u64) -> Vec<u32> {
 
 fn print_lines(book: &[u8], messages: usize, answers: &[u64], total: &Total) -> io::Result<()> {
     let mut out = io::stdout().lock();
-    for (k, row) in answers.chunks_exact(3).take(messages).enumerate() {
+    for (k, row) in answers.chunks_exact(ROW_NUMBERS).take(messages).enumerate() {
         write!(out, "{} {} {}", k + 1, row[0], row[1])?;
         for id in ids(book, row[2]) {
             write!(out, " {id}")?;
@@ -74,11 +85,16 @@ fn main() -> io::Result<()> {
         eprintln!("small BOOK DAY");
         process::exit(2);
     }
-    let book = fs::read(&words[1])?;
-    let day = fs::read(&words[2])?;
-    let mut memory = vec![0u64; 17 * 64];
-    let mut answers = vec![0u64; 3 * 4096];
-    let mut workspace = vec![0u64; 650];
+    // A missing file counts as empty.
+    let book = fs::read(&words[1]).unwrap_or_default();
+    let day = fs::read(&words[2]).unwrap_or_default();
+    if book.len() > BOOK_BYTES || day.len() > DAY_BYTES {
+        println!("too long");
+        process::exit(1);
+    }
+    let mut memory = vec![0u64; SLOT_NUMBERS * SLOTS];
+    let mut answers = vec![0u64; ROW_NUMBERS * MESSAGES];
+    let mut workspace = vec![0u64; WORKSPACE_NUMBERS];
     let total = run(&book, &day, &mut memory, &mut answers, &mut workspace);
     // A run that is not refused has a day file of 2 bytes or more.
     let messages = if total.refusal == 0 { usize::from(day[0]) | usize::from(day[1]) << 8 } else { 0 };
