@@ -2,7 +2,7 @@
 -- LEAF: relation, the constant's 32 bits. AND, OR: successors through the book. NOT: successor. STEP: label, successor.
 use mathlib.Core.Path.{_≡_, ap}
 use mathlib.Core.List.{List}
-use Prim.Native.Nat.{ℕ, _+_, _-_, _*_, _/_, _^_, _<_, _≤_}
+use Prim.Native.Nat.{ℕ, suc, _+_, _-_, _*_, _/_, _^_, _<_, _≤_}
 use native.Mathlib.Nat.{sub-zero}
 use native.Mathlib.Omega.{arith}
 use native.Mathlib.Decide.{ℕ-discrete}
@@ -69,27 +69,27 @@ plan-means p book h = ap (λ (b : List State). record { states = b; reads = text
 
 pub state-true : (k x y : ℕ) → k ≡ 0 → planState k x y ≡ TRUE
 unfolding planState pick
-state-true k x y e = rw e
+state-true k x y e = ap (λ n. planState n x y) e
 
 pub state-leaf : (k x y : ℕ) → k ≡ 1 → planState k x y ≡ LEAF (compares (relationOf x) (signed4 y))
 unfolding planState pick
-state-leaf k x y e = rw e
+state-leaf k x y e = ap (λ n. planState n x y) e
 
 pub state-and : (k x y : ℕ) → k ≡ 2 → planState k x y ≡ AND x y
 unfolding planState pick
-state-and k x y e = rw e
+state-and k x y e = ap (λ n. planState n x y) e
 
 pub state-or : (k x y : ℕ) → k ≡ 3 → planState k x y ≡ OR x y
 unfolding planState pick
-state-or k x y e = rw e
+state-or k x y e = ap (λ n. planState n x y) e
 
 pub state-not : (k x y : ℕ) → k ≡ 4 → planState k x y ≡ NOT x
 unfolding planState pick
-state-not k x y e = rw e
+state-not k x y e = ap (λ n. planState n x y) e
 
 pub state-step : (k x y : ℕ) → k ≡ 5 → planState k x y ≡ STEP x y
 unfolding planState pick
-state-step k x y e = rw e
+state-step k x y e = ap (λ n. planState n x y) e
 
 pub state-other : (k x y : ℕ) → (k ≡ 1 → ⊥) → (k ≡ 2 → ⊥) → (k ≡ 3 → ⊥) → (k ≡ 4 → ⊥) → (k ≡ 5 → ⊥) → planState k x y ≡ TRUE
 unfolding planState pick
@@ -97,6 +97,9 @@ state-other k x y a b c d e = elim (ℕ-discrete k 0) [
   | yes z ↦ rw z
   | no z ↦ simp (ne-eqb _ _ z, ne-eqb _ _ a, ne-eqb _ _ b, ne-eqb _ _ c, ne-eqb _ _ d, ne-eqb _ _ e)
 ]
+
+pub state-past : (k x y : ℕ) → planState (suc (suc (suc (suc (suc (suc k)))))) x y ≡ TRUE
+state-past k x y = state-other (suc (suc (suc (suc (suc (suc k)))))) x y (λ e. omega arith) (λ e. omega arith) (λ e. omega arith) (λ e. omega arith) (λ e. omega arith)
 
 -- a plan at a room's start, lent as a part of it
 pub plan-lent : (p book : List ℕ) (n : ℕ) → PlanOf (take n p) book → PlanOf (take (n - 0) p) book

@@ -59,6 +59,10 @@ accepted d e =
       whole = places d (passes 10) .1;
     }
 
+-- the bytes of its count are there
+pub day-two : (d : List ℕ) → dayRefusal d ≡ 0 → 2 ≤ length d
+day-two d h = let a : DayAccepted d = accepted d h in omega arith
+
 -- ── message k: its entry, its part of the file, and how long that is ──
 module _ (d : List ℕ) (k : ℕ) (ok : dayRefusal d ≡ 0) (h : k < messageCount d) where
   pub entry-inside : entryAt (k + 1) ≤ length d

@@ -6,14 +6,13 @@ use native.Mathlib.Numerals.{add-one}
 use native.Mathlib.Omega.{arith}
 use native.Mathlib.Decide.{ℕ-discrete}
 use lib.Dec.{eqb}
-use lib.ListN.{length, take, drop, set, replicate, length-append}
+use lib.ListN.{length, drop, replicate, length-append}
 use lib.Seq.{take-at, drop-at, drop-drop}
-use borrow.Author.Tests.{eq-eqb, ne-eqb}
+use borrow.Author.Tests.{ne-eqb}
 use denote.Ref.{RefT}
 use denote.Triple.Both.{Both}
 use Rattle.lists.specs.Choice.{pick}
 use Rattle.lists.specs.Parts.{patch}
-use Rattle.lists.specs.Parts.Laws.{part-back}
 use Rattle.rules.specs.Book.{bookRefusal, statesOf, meaningOf}
 use Rattle.rules.specs.DayFile.{mostDayBytes, messageCount, messageLength, bytesBefore, messageBody, dayRefusal}
 use Rattle.rules.specs.Match.{filtersWhere}
@@ -25,13 +24,14 @@ use Rattle.rules.specs.Run.{rowWidth, workspaceWidth, Lent, Returned, passDay}
 use Rattle.book_plan.specs.Plan.{meaningIn, PlanOf, plan-means}
 use Rattle.memory_index.specs.Index.{Indexed}
 use Rattle.day_check.specs.DayAccepted.{DayAccepted, accepted, bytes-rise, message-long}
-use Rattle.message_reading.specs.declared.Ended.{Ended}
+use Rattle.message_finish.specs.declared.Ended.{Ended}
 use Rattle.message_reading.specs.Outcomes.{Says, ReadMessage}
 use Rattle.message_reading.specs.Turn.{Rose}
 use Rattle.memory_ask.specs.declared.Counts.{Counts}
 use Rattle.day_pass.specs.declared.Row.{Row}
 use Rattle.memory_ask.specs.Ask.{carriedIn, countMost}
 use Rattle.message_levels.specs.Level.{setAt}
+use Rattle.day_row.specs.Row.{rootFilters}
 use Rattle.lists.specs.Lending.{left}
 
 abbrev pub lentOf : List ℕ → List ℕ → List ℕ → List ℕ → List ℕ → Lent
@@ -71,23 +71,6 @@ pub record PassReady (book day plan index memory answers ws : List ℕ) (c : Cou
   pub anew-few : c .anew < countLimit
 
 -- ── one message ──
--- the filters by the root's set in level 0, where the message is read
-unfoldable pub rootFilters : List ℕ → List ℕ → ℕ → ℕ
-rootFilters book ws refusal = pick (eqb refusal 0) (filtersWhere book (completed (statesOf book) (setAt ws 0))) 0
-
-pub root-read : (book ws set : List ℕ) (refusal r : ℕ) → refusal ≡ 0 → set ≡ setAt ws 0 → r ≡ filtersWhere book (completed (statesOf book) set) →
-    r ≡ rootFilters book ws refusal
-unfolding rootFilters pick
-root-read book ws set refusal r e q f = simp (eq-eqb _ _ e) (rw q at f)
-
-pub root-refused : (book ws : List ℕ) (refusal : ℕ) → (refusal ≡ 0 → ⊥) → 0 ≡ rootFilters book ws refusal
-unfolding rootFilters pick
-root-refused book ws refusal e = simp (ne-eqb _ _ e)
-
--- a row lent from the answers' middle, and back
-pub row-back : (s l : List ℕ) (a x y z : ℕ) → l ≡ x ∷ y ∷ z ∷ [] → take a s ++ (l ++ drop (a + rowWidth - a) (drop a s)) ≡ patch s a (x ∷ y ∷ z ∷ [])
-row-back s l a x y z e = part-back s l (x ∷ y ∷ z ∷ []) a rowWidth e refl
-
 -- what message k leaves: what is carried on, its row, and the workspace past the levels as it was
 pub record MessageWritten (book day : List ℕ) (k : ℕ) (m answers ws : List ℕ) (c r : Counts) (m′ answers′ ws′ : List ℕ) : Type 0 where
   pub carried : carriedIn m′ r ≡ (passMessage (meaningOf book) (messageBody day k) (carriedIn m c)) .state
@@ -241,9 +224,6 @@ pass-is book day m answers ws c r v a w u p e =
     rw (p .rows, e, p .past, ← d) refl
 
 -- ── what acceptance gives the calls ──
-pub day-two : (d : List ℕ) → dayRefusal d ≡ 0 → 2 ≤ length d
-day-two d h = let a : DayAccepted d = accepted d h in omega arith
-
 pub body-few : (d body : List ℕ) (k a : ℕ) → dayRefusal d ≡ 0 → k < messageCount d → body ≡ messageBody d k → a + length d < countMost →
     a + length body < countMost
 body-few d body k a ok h e l =

@@ -2,24 +2,17 @@
 // sister crates only: day_run has the public calls.
 // Read specs/Passing first: what a call is lent, what one message leaves, and what the loop keeps.
 ghost use mathlib.Core.Path.{_≡_};
-ghost use mathlib.Core.List.{[], _∷_};
 ghost use Prim.Native.Nat.{_+_, _*_, _≤_};
 ghost use lib.ListN.{length};
 ghost use Rattle.lists.specs.Lending.{was, left};
-ghost use Rattle.lists.specs.Parts.{patch};
-ghost use Rattle.rules.specs.Book.{bookRefusal};
 ghost use Rattle.rules.specs.DayFile.{messageCount};
-ghost use Rattle.rules.specs.Run.{rowWidth, workspaceWidth, passDay};
+ghost use Rattle.rules.specs.Run.{rowWidth, passDay};
 ghost use Rattle.rules.specs.Promise.{lent};
-ghost use Rattle.book_plan.specs.Plan.{PlanOf};
 ghost use Rattle.memory_ask.specs.Ask.{carried};
 ghost use Rattle.memory_index.specs.Index.{Indexed};
-ghost use Rattle.day_pass.specs.Passing.{MessageReady, PassReady, rootFilters, MessageRead};
+ghost use Rattle.day_pass.specs.Passing.{MessageReady, PassReady, MessageRead};
 ghost use Rattle.day_pass.specs.Passing.{MessageWritten, PassedUpTo, passed};
 use memory_ask::Counts;
-
-// A message's answer numbers: refusal, place, filters.
-pub const ROW: usize = 3;
 
 // A message's answer numbers, and the counts after it.
 struct Row {
@@ -27,29 +20,6 @@ struct Row {
     place: usize,
     filters: u64,
     counts: Counts,
-}
-
-// The filters of a message that is read, by the root's set in level 0; a refused message matches none.
-fn root_filters(book: &[u8], plan: &[u64], workspace: &[u64], refusal: u64) -> u64
-    requires { ⌜ bookRefusal (now book) ≡ 0 ⌝ }
-    requires { ⌜ PlanOf (now plan) (now book) ⌝ }
-    requires { ⌜ workspaceWidth ≤ length (now workspace) ⌝ }
-    ensures { λ r. ⌜ r ≡ rootFilters (was book) (was workspace) refusal ⌝ }
-{
-    if refusal == 0 {
-        return set_filters::filters(book, plan, message_levels::set_of(workspace, 0));
-    }
-    0
-}
-
-// A message's answer numbers in their place.
-fn write_row(answers: &mut [u64], k: usize, refusal: u64, place: usize, filters: u64)
-    requires { ⌜ rowWidth * k + rowWidth ≤ length (now answers) ⌝ }
-    ensures { λ _. ⌜ left answers ≡ patch (was answers) (rowWidth * k) (refusal ∷ place ∷ filters ∷ []) ⌝ }
-{
-    let row = [refusal, place as u64, filters];
-    let a = ROW * k;
-    lists::copy(&mut answers[a..a + ROW], &row);
 }
 
 // Message k read, and its filters found.
@@ -72,7 +42,7 @@ fn message(
     let body = day_check::message_body(day, k);
     let e = message_reading::read(body, plan, index, memory, workspace, c);
     let refusal = e.refusal;
-    let filters = root_filters(book, plan, workspace, refusal);
+    let filters = day_row::root_filters(book, plan, workspace, refusal);
     let counts = e.counts;
     Row {
         refusal: refusal,
@@ -103,7 +73,7 @@ fn one(
     ensures { λ r. ⌜ Indexed (left index) (left memory) (r .filled) ⌝ }
 {
     let r = message(book, day, k, plan, index, memory, workspace, c);
-    write_row(answers, k, r.refusal, r.place, r.filters);
+    day_row::write_row(answers, k, r.refusal, r.place, r.filters);
     let next = r.counts;
     next
 }

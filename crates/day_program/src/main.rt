@@ -58,7 +58,7 @@ fn put_ids(book: &[u8], filters: u64) {
 fn put_row(book: &[u8], answers: &[u64], k: usize)
     requires { ⌜ rowWidth * k + rowWidth ≤ length (now answers) ⌝ }
 {
-    let a = day_pass::ROW * k;
+    let a = day_row::ROW * k;
     io::print_decimal(STDOUT_FILENO, k as u64 + 1);
     put(answers[a]);
     put(answers[a + 1]);
@@ -93,7 +93,7 @@ fn show(book: &[u8], day: &[u8], memory: &mut [u64], answers: &mut [u64], worksp
         return;
     }
     let count = number_bytes::read2(day, 0) as usize;
-    if day_pass::ROW * count <= answers.len() {
+    if day_row::ROW * count <= answers.len() {
         put_rows(book, answers, count);
     }
     put_total(t, count);
@@ -110,7 +110,7 @@ fn main() {
         return;
     }
     let mut memory = [0u64; SLOTS * memory_slots::SLOT];
-    let mut answers = [0u64; MESSAGES * day_pass::ROW];
+    let mut answers = [0u64; MESSAGES * day_row::ROW];
     let mut workspace = [0u64; message_levels::WORKSPACE];
     show(
         &book[0..nb],

@@ -1,84 +1,47 @@
 -- A law for each way through the engine's calls.
 use mathlib.Core.Path.{_≡_, refl, sym, ap, _∙_}
-use mathlib.Core.Bool.{true, false, _||_}
-use mathlib.Core.List.{List, [], _∷_, _++_}
-use Prim.Native.Nat.{ℕ, zero, suc, _+_, _-_, _*_, _<_, _≤_}
+use mathlib.Core.List.{List}
+use Prim.Native.Nat.{ℕ, zero, suc, _*_, _<_, _≤_}
 use native.Mathlib.Omega.{arith}
-use lib.Dec.{eqb, leb}
 use lib.ListN.{length}
-use borrow.Author.Tests.{eq-eqb, ne-eqb, lt-ltb, le-ltb, ltb-false, leb-false}
-use Rattle.lists.specs.Choice.{pick}
+use borrow.Author.Tests.{eq-eqb, ne-eqb, ltb-false, leb-false}
 use Rattle.lists.specs.Checks.{firstOf}
 use Rattle.lists.specs.Choice.Laws.{pick-true, pick-false, neither}
-use Rattle.lists.specs.Checks.Laws.{first-fails, first-passes, first-end, first-zero, first-join}
-use Rattle.rules.specs.Book.{bookChecks, bookRefusal}
-use Rattle.rules.specs.DayFile.{messageCount, dayChecks, dayRefusal}
+use Rattle.lists.specs.Checks.Laws.{first-zero}
+use Rattle.rules.specs.Book.{bookRefusal}
+use Rattle.rules.specs.DayFile.{messageCount, dayRefusal}
 use Rattle.rules.specs.Memory.{slotsLent}
-use Rattle.rules.specs.Run.{rowWidth, workspaceWidth, Lent, lentChecks, runChecks, runRefusal, refusedRun, passDay, run}
-use Rattle.rules.specs.Run.Laws.{no-zero, run-refused, run-accepted}
-use Rattle.rules.specs.Calls.{countLimit, counts, countChecks, passRefusal, passFrom}
+use Rattle.rules.specs.Run.{rowWidth, workspaceWidth, Lent, lentChecks, runRefusal, refusedRun, passDay, run}
+use Rattle.rules.specs.Run.Laws.{run-refused, run-accepted}
+use Rattle.rules.specs.Calls.{countLimit, counts, passRefusal, passFrom}
 use Rattle.rules.specs.Calls as rules
 use Rattle.memory_ask.specs.declared.Counts.{Counts}
 use Rattle.memory_ask.specs.Ask.{carriedIn}
-use Rattle.day_pass.specs.Passing.{lentOf, passReturned, day-two}
+use Rattle.day_pass.specs.Passing.{lentOf, passReturned}
+use Rattle.day_pass_alone.specs.RunAccepted.{RunAccepted}
+use Rattle.day_refusals.specs.Laws.{refused-book, refused-day, past-files, from-run, past-run}
 use Rattle.day_run.specs.declared.Total.{Total}
-use Rattle.day_run.specs.Calls.{totalReturned, RunAccepted}
+use Rattle.day_run.specs.Calls.{totalReturned}
 
 module _ (l : Lent) where
-  joined : runRefusal l ≡ pick (eqb (bookRefusal (l .book)) 0) (pick (eqb (dayRefusal (l .day)) 0) (firstOf (lentChecks l)) (dayRefusal (l .day))) (bookRefusal (l .book))
-  unfolding runRefusal bookRefusal dayRefusal
-  joined =
-      first-join (bookChecks (l .book)) (dayChecks (l .day) ++ lentChecks l) refl
-      ∙ ap (λ (n : ℕ). pick (eqb (firstOf (bookChecks (l .book))) 0) n (firstOf (bookChecks (l .book))))
-      (first-join (dayChecks (l .day)) (lentChecks l) refl)
-
-  total-joined : (c : rules.Counts) → passRefusal l c ≡ pick (eqb (runRefusal l) 0) (firstOf (countChecks l c)) (runRefusal l)
-  unfolding passRefusal runRefusal
-  total-joined c = first-join (runChecks l) (countChecks l c) (no-zero l)
-
-  -- ── the refusals ──
-  module _ (b : ℕ) (checked : b ≡ bookRefusal (l .book)) where
-    pub refused-book : (b ≡ 0 → ⊥) → b ≡ runRefusal l
-    refused-book h = checked ∙ sym (joined ∙ pick-false _ _ _ (ne-eqb _ _ (λ e. h (checked ∙ e))))
-
-    module _ (fine : b ≡ 0) (d : ℕ) (looked : d ≡ dayRefusal (l .day)) where
-      later : runRefusal l ≡ pick (eqb (dayRefusal (l .day)) 0) (firstOf (lentChecks l)) (dayRefusal (l .day))
-      later = joined ∙ pick-true _ _ _ (eq-eqb _ _ (sym checked ∙ fine))
-
-      pub refused-day : (d ≡ 0 → ⊥) → d ≡ runRefusal l
-      refused-day h = looked ∙ sym (later ∙ pick-false _ _ _ (ne-eqb _ _ (λ e. h (looked ∙ e))))
-
-      module _ (whole : d ≡ 0) (n : ℕ) (count : n ≡ messageCount (l .day)) where
-        last : runRefusal l ≡ firstOf (lentChecks l)
-        last = later ∙ pick-true _ _ _ (eq-eqb _ _ (sym looked ∙ whole))
-
-        pub refused-answers : length (l .answers) < rowWidth * n → 11 ≡ runRefusal l
-        refused-answers h = sym (last ∙ first-fails 11 _ _ (lt-ltb _ _ (rw count at h)))
-
-        pub refused-levels : rowWidth * n ≤ length (l .answers) → length (l .workspace) < workspaceWidth → 12 ≡ runRefusal l
-        refused-levels h k = sym (last ∙ first-passes 11 _ _ (le-ltb _ _ (rw count at h)) ∙ first-fails 12 _ _ (lt-ltb _ _ k))
-
-        pub refused-none : rowWidth * n ≤ length (l .answers) → workspaceWidth ≤ length (l .workspace) → 0 ≡ runRefusal l
-        refused-none h k = sym (last ∙ first-passes 11 _ _ (le-ltb _ _ (rw count at h)) ∙ first-passes 12 _ _ (le-ltb _ _ k) ∙ first-end)
-
   -- ── what is not refused ──
   book-passes : runRefusal l ≡ 0 → bookRefusal (l .book) ≡ 0
   book-passes e = go (bookRefusal (l .book)) refl
     where
       go : (n : ℕ) → bookRefusal (l .book) ≡ n → bookRefusal (l .book) ≡ 0
       go zero d = d
-      go (suc n) d = absurd (let z : runRefusal l ≡ bookRefusal (l .book) = sym (refused-book (bookRefusal (l .book)) refl (λ k. omega arith)) in omega arith)
+      go (suc n) d = absurd (let z : runRefusal l ≡ bookRefusal (l .book) = sym (refused-book l (bookRefusal (l .book)) refl (λ k. omega arith)) in omega arith)
 
   day-passes : runRefusal l ≡ 0 → dayRefusal (l .day) ≡ 0
   day-passes e = go (dayRefusal (l .day)) refl
     where
       go : (n : ℕ) → dayRefusal (l .day) ≡ n → dayRefusal (l .day) ≡ 0
       go zero d = d
-      go (suc n) d = absurd (let z : runRefusal l ≡ dayRefusal (l .day) = sym (refused-day (bookRefusal (l .book)) refl (book-passes e) (dayRefusal (l .day)) refl (λ k. omega arith)) in omega arith)
+      go (suc n) d = absurd (let z : runRefusal l ≡ dayRefusal (l .day) = sym (refused-day l (bookRefusal (l .book)) refl (book-passes e) (dayRefusal (l .day)) refl (λ k. omega arith)) in omega arith)
 
   lent-pass : runRefusal l ≡ 0 → (rowWidth * messageCount (l .day) ≤ length (l .answers)) × (workspaceWidth ≤ length (l .workspace))
   lent-pass e =
-      let f : firstOf (lentChecks l) ≡ 0 = sym (last (bookRefusal (l .book)) refl (book-passes e) (dayRefusal (l .day)) refl (day-passes e) (messageCount (l .day)) refl) ∙ e in
+      let f : firstOf (lentChecks l) ≡ 0 = sym (past-files l (bookRefusal (l .book)) refl (book-passes e) (dayRefusal (l .day)) refl (day-passes e)) ∙ e in
       let one = first-zero 11 _ _ (omega arith) f in
       let two = first-zero 12 _ _ (omega arith) (one .1) in
       (ltb-false _ _ (one .0), ltb-false _ _ (two .0))
@@ -128,38 +91,17 @@ module _ (book day memory answers ws : List ℕ) where
     abbrev begun : Counts
     begun = record { asked = asked; anew = anew; filled = filled }
 
-    module _ (n : ℕ) (told : n ≡ runRefusal lent) where
-      pub from-run : (n ≡ 0 → ⊥) → n ≡ passRefusal lent from
-      from-run h = told ∙ sym (total-joined lent from ∙ pick-false _ _ _ (ne-eqb _ _ (λ e. h (told ∙ e))))
-
-      module _ (z : n ≡ 0) (s : ℕ) (slots : s ≡ slotsLent memory) where
-        after : passRefusal lent from ≡ firstOf (countChecks lent from)
-        after = total-joined lent from ∙ pick-true _ _ _ (eq-eqb _ _ (sym told ∙ z))
-
-        pub from-filled : s < filled → 14 ≡ passRefusal lent from
-        from-filled h = sym (after ∙ first-fails 14 _ _ (lt-ltb _ _ (rw slots at h)))
-
-        module _ (room : filled ≤ s) where
-          past-filled : passRefusal lent from ≡ firstOf (record { number = 19; fails = leb countLimit asked || leb countLimit anew } ∷ [])
-          past-filled = after ∙ first-passes 14 _ _ (le-ltb _ _ (rw slots at room))
-
-          pub from-counts : leb countLimit asked || leb countLimit anew ≡ true → 19 ≡ passRefusal lent from
-          from-counts t = sym (past-filled ∙ first-fails 19 _ _ t)
-
-          pub from-none : leb countLimit asked || leb countLimit anew ≡ false → 0 ≡ passRefusal lent from
-          from-none t = sym (past-filled ∙ first-passes 19 _ _ t ∙ first-end)
-
     module _ (n : ℕ) (told : n ≡ passRefusal lent from) where
       run-passed : n ≡ 0 → runRefusal lent ≡ 0
       run-passed z = go (runRefusal lent) refl
         where
           go : (k : ℕ) → runRefusal lent ≡ k → runRefusal lent ≡ 0
           go zero d = d
-          go (suc k) d = absurd (let y : runRefusal lent ≡ passRefusal lent from = from-run (runRefusal lent) refl (λ e. omega arith) in omega arith)
+          go (suc k) d = absurd (let y : runRefusal lent ≡ passRefusal lent from = from-run lent from (runRefusal lent) refl (λ e. omega arith) in omega arith)
 
       pub from-accepts : n ≡ 0 → RunAccepted book day memory answers ws begun
       from-accepts z =
-          let one = first-zero 14 _ _ (omega arith) (sym (after (runRefusal lent) refl (run-passed z) (slotsLent memory) refl) ∙ sym told ∙ z) in
+          let one = first-zero 14 _ _ (omega arith) (sym (past-run lent from (runRefusal lent) refl (run-passed z)) ∙ sym told ∙ z) in
           let two = first-zero 19 _ _ (omega arith) (one .1) in
           let many = neither _ _ (two .0) in
           accepted-with begun (run-passed z) (ltb-false _ _ (one .0)) (leb-false _ _ (many .0)) (leb-false _ _ (many .1))
@@ -173,6 +115,3 @@ module _ (book day memory answers ws : List ℕ) where
           passReturned r m a w ≡ passDay lent (carriedIn memory begun) → totalReturned t m a w ≡ passFrom lent from
       unfolding passFrom
       from-passes r t m a w z i e = rw i (e ∙ sym (pick-true _ _ _ (eq-eqb _ _ (sym told ∙ z))))
-
-pub two-bytes : (d : List ℕ) (n : ℕ) → n ≡ dayRefusal d → n ≡ 0 → 2 ≤ length d
-two-bytes d n e z = day-two d (sym e ∙ z)

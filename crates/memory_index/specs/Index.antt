@@ -1,13 +1,16 @@
 -- The index over the filled slots, 12,288 numbers: 8,192 heads by a hash of the question, and then for each slot the one before it in its chain.
 -- Only the first slot that asks a question is entered, so the first hit of a chain is the first slot of all that asks it.
-use mathlib.Core.Path.{_≡_}
+use mathlib.Core.Path.{_≡_, refl}
 use mathlib.Core.Bool.{Bool, true, false}
-use mathlib.Core.List.{List}
+use mathlib.Core.List.{List, [], _∷_, map}
 use mathlib.Core.Option.{Option, none, some}
 use Prim.Native.Nat.{ℕ, zero, suc, _+_, _*_, _≤_}
 use lib.ListN.{length, getD, set, replicate}
 use Rattle.lists.specs.Choice.{pick}
+use Rattle.lists.specs.Parts.{part}
+use Rattle.lists.specs.Same.{sameList}
 use Rattle.rules.specs.Memory.{slotWidth, mostSlots, questionIn, slotQuestion, firstSlot}
+use Rattle.rules.specs.Memory.Examples.{held}
 use Rattle.memory_hash.specs.Hash.{heads, hashOf}
 use Rattle.memory_index.specs.declared.Found.{Found}
 use Rattle.memory_index.specs.declared.Found.the-variants.{At, Nothing}
@@ -32,6 +35,11 @@ isNone none = true
 -- no slot before slot i asks its question
 unfoldable pub isFirst : List ℕ → ℕ → Bool
 isFirst m i = isNone (firstBy m i (slotQuestion m i))
+
+-- of four slots the last two ask one question: the third is its first
+pub first-alone : map (isFirst held) (0 ∷ 1 ∷ 2 ∷ 3 ∷ []) ≡ true ∷ true ∷ true ∷ false ∷ []
+unfolding isFirst firstSlot slotQuestion part sameList pick
+first-alone = refl
 
 -- the index when slot n becomes the head of the chain at h
 unfoldable pub entered : List ℕ → ℕ → ℕ → List ℕ

@@ -1,24 +1,19 @@
--- What is lent to the inner call and what it gives, as its promise has it, and what a question that is not refused has.
+-- What the inner call gives, as its promise has it, beside what it is lent; and what a question that is not refused has.
 use mathlib.Core.Path.{_≡_}
 use mathlib.Core.List.{List}
 use Prim.Native.Nat.{ℕ, _<_, _≤_}
 use lib.ListN.{length}
 use denote.Ref.{RefT}
 use denote.Triple.Both.{Both}
-use Rattle.lists.specs.Lending.{was, left}
+use Rattle.lists.specs.Lending.{left}
 use Rattle.rules.specs.Book.{bookRefusal}
 use Rattle.rules.specs.Sets.{setWidth}
 use Rattle.rules.specs.Memory.{questionWidth, slotsLent}
-use Rattle.rules.specs.Calls.{countLimit, QuestionLent, QuestionReturned}
+use Rattle.rules.specs.Calls.{countLimit, QuestionReturned}
 use Rattle.memory_ask.specs.declared.Counts.{Counts}
 use Rattle.memory_ask.specs.Ask.{countMost}
 use Rattle.memory_question.specs.declared.Answered.{Answered}
-
--- of the slices of a call: what each held when the call began
-abbrev pub questionLent : {A B C D : Type 0} →
-    Both (RefT (List ℕ)) A → Both (RefT (List ℕ)) B → ℕ → ℕ → Both (RefT (List ℕ)) C → Both (RefT (List ℕ)) D → QuestionLent
-questionLent book memory filled anew q answer =
-    record { book = was book; question = was q; room = was answer; kept = record { memory = was memory; anew = anew; filled = filled } }
+pub use Rattle.memory_refusals.specs.Question.{questionLent}
 
 abbrev pub answeredWith : Answered → List ℕ → List ℕ → QuestionReturned
 answeredWith r m a = record { refusal = r .refusal; reply = record { answer = a; kept = record { memory = m; anew = r .anew; filled = r .filled } } }

@@ -8,13 +8,11 @@ ghost use Rattle.lists.specs.Lending.{was};
 ghost use Rattle.rules.specs.Book.{statesOf};
 ghost use Rattle.rules.specs.Memory.{questionIn};
 ghost use Rattle.rules.specs.Pass.{askNext};
-ghost use Rattle.rules.specs.Calls.{questionRefusal};
 ghost use Rattle.rules.specs.Promise.{QuestionPromise};
 ghost use Rattle.memory_ask.specs.Ask.{carried, replied};
-ghost use Rattle.memory_question.specs.Question.{questionLent, questionReturned, Answerable};
+ghost use Rattle.memory_refusals.specs.Question.{questionLent};
+ghost use Rattle.memory_question.specs.Question.{questionReturned, Answerable};
 use memory_ask::Counts;
-use memory_slots::ANSWER;
-use memory_slots::QUESTION;
 
 // The refusal, and the counts for the next question; zero counts where the question is refused.
 #[repr(C)]
@@ -22,25 +20,6 @@ pub struct Answered {
     pub refusal: u64,
     pub anew: u64,
     pub filled: usize,
-}
-
-fn refusal_of(book: &[u8], memory: &[u64], c: Counts, q: &[u64], answer: &[u64]) -> u64
-    ensures { λ r. ⌜ r ≡ questionRefusal (questionLent book memory (c .filled) (c .anew) q answer) ⌝ }
-{
-    let no = book_check::check_book(book);
-    if no != 0 {
-        return no;
-    }
-    if (q.len() != QUESTION) | (answer.len() != ANSWER) {
-        return 18;
-    }
-    if memory_slots::lent(memory) < c.filled {
-        return 14;
-    }
-    if memory_ask::LIMIT <= c.anew {
-        return 19;
-    }
-    0
 }
 
 // A question to an accepted book.
@@ -75,7 +54,7 @@ pub fn answer_question(
         anew: anew,
         filled: filled,
     };
-    let no = refusal_of(book, memory, c, q, answer);
+    let no = memory_refusals::refusal_of(book, memory, c, q, answer);
     if no != 0 {
         return Answered {
             refusal: no,

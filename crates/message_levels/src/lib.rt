@@ -1,7 +1,7 @@
 // The levels of the lent workspace: in each the numbers of a set, the label, the stage. The one crate that knows where
 // a level stands and what stands where in it. Its `pub` is for sister crates only.
 // Work on one level is lent that level alone, a mutable part from the workspace's middle: each `_at` contract says
-// that the rest of the workspace stays. Read specs/Level first; message_events is next.
+// that the rest of the workspace stays. Read specs/Level first. Read next: message_starts.
 ghost use mathlib.Core.Path.{_≡_};
 ghost use mathlib.Core.List.{_++_};
 ghost use Prim.Native.Nat.{_≤_};
@@ -121,7 +121,7 @@ fn leaves(level: &mut [u64], plan: &[u64], value: Value)
     requires { ⌜ (length (now level) ≡ levelWidth) × Planned (now plan) ⌝ }
     ensures { λ _. ⌜ left level ≡ joined (was level) (leavesOf (statesIn (was plan)) (meant value)) ⌝ }
 {
-    set_work::leaves(plan, value, &mut level[0..SET]);
+    set_leaves::leaves(plan, value, &mut level[0..SET]);
 }
 
 // The LEAF states of a value are joined to a level's set: a text adds to what the attributes brought.

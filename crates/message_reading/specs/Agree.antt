@@ -1,17 +1,16 @@
 -- What an event does in the workspace and the memory is what the rules say that it does.
 use mathlib.Core.Path.{_≡_, refl, sym, _∙_, ap, ap₂}
-use mathlib.Core.Bool.{Bool, true, false, _||_, not}
+use mathlib.Core.Bool.{true, false}
 use mathlib.Core.List.{List, [], _∷_}
 use Prim.Native.Nat.{ℕ, zero, suc, _+_, _-_, _<_, _≤_}
 use native.Mathlib.Numerals.{add-one}
 use native.Mathlib.Omega.{arith}
-use lib.Dec.{eqb, leb}
+use lib.Dec.{leb}
 use lib.ListN.{length, getD, take, drop, length-drop}
 use lib.Seq.{drop-cons}
-use borrow.Author.Tests.{le-ltb, le-leb, lt-leb, eqb-true, eqb-false}
+use borrow.Author.Tests.{le-ltb, le-leb, lt-leb}
 use Rattle.lists.specs.Choice.{pick}
 use Rattle.lists.specs.Parts.{part}
-use Rattle.lists.specs.Checks.Laws.{first-fails, first-passes, first-end}
 use Rattle.rules.specs.Book.{Meaning, outOfRange}
 use Rattle.rules.specs.Bytes.{le2}
 use Rattle.rules.specs.State.{attribute}
@@ -20,11 +19,13 @@ use Rattle.rules.specs.Sets.{either, leavesOf, noStates}
 use Rattle.rules.specs.Pass.{Carried, askNext, asking}
 use Rattle.message_levels.specs.Level.{HasLevel, OneLevel, labelIn, stageIn, setAt, asksAt, levelOf, openedAt, stagedAt, joinedAt}
 use Rattle.message_levels.specs.Laws.{opened-one, staged-one, joined-one, opened-holds, staged-holds, joined-holds, other-holds, has-still}
+use Rattle.message_starts.specs.Starts.{childOpened, start-room}
+use Rattle.message_texts.specs.Texts.{heldAt, heldBy}
+use Rattle.message_ends.specs.Ends.{closeOf, end-inside}
 use Rattle.memory_ask.specs.Ask.{carriedIn}
 use Rattle.message_events.specs.declared.Reader.{Reader}
 use Rattle.message_events.specs.Meant.{Stepped, goesOn, refusedAt}
-use Rattle.message_events.specs.Step.{childOpened, startBy, startFor, heldBy, textStep, textFor, closeOf, countsIn, ended, endOf}
-use Rattle.message_events.specs.Laws.{start-room, end-none, end-other, end-own}
+use Rattle.message_events.specs.Step.{startBy, startFor, textStep, textFor, countsIn, ended, endBy, endFor}
 
 -- ── the reading that the workspace, the memory and the reader's state hold ──
 -- the levels under level d, the innermost first
@@ -39,7 +40,7 @@ abbrev pub nextOf : Stepped → List ℕ → List ℕ → Next (List ℕ) Carrie
 nextOf (goesOn t) ws m = on (readingOf ws m t)
 nextOf (refusedAt e p) ws m = refused e
 
-abbrev ending : Stepped × List ℕ × List ℕ → Next (List ℕ) Carried
+abbrev pub ending : Stepped × List ℕ × List ℕ → Next (List ℕ) Carried
 ending y = nextOf (y .0) (y .1) (y .2)
 
 -- ── levels ──
@@ -166,17 +167,6 @@ module _ (b : Meaning) (ws m : List ℕ) (s : Reader) (has : HasLevel ws (s .dep
     said : List ℕ
     said = part body (s .place + 2) k
 
-    astray : Bool
-    astray = eqb (s .depth) 0 || not (eqb (stageIn ws (s .depth)) 0)
-
-    for-astray : astray ≡ true → textFor k body b ws s ≡ (refusedAt 26 (s .place), ws)
-    unfolding astray textFor pick
-    for-astray e = simp (le-ltb _ _ whole, e)
-
-    for-held : (h : Bool × List ℕ) → astray ≡ false → heldBy b said ws (s .depth) ≡ h → textFor k body b ws s ≡ (textStep s k (h .0), h .1)
-    unfolding astray said textFor pick
-    for-held h e f = simp (le-ltb _ _ whole, e) (ap (λ (y : Bool × List ℕ). (textStep s k (y .0), y .1)) f)
-
     -- a text at the top level that the workspace holds
     after-text : Reading (List ℕ) Carried
     unfolding said
@@ -191,25 +181,16 @@ module _ (b : Meaning) (ws m : List ℕ) (s : Reader) (has : HasLevel ws (s .dep
     unfolding readingOf said after-text
     on-text = rw (under-long ws (s .depth)) refl
 
-    told : Stepped × List ℕ → Next (List ℕ) Carried
-    told y = nextOf (y .0) (y .1) m
-
-    text-by : (p : Bool) → astray ≡ p → (q : Bool) → outOfRange b said ≡ q → onText (asking b) (readingOf ws m s) (2 + k) said ≡ told (textFor k body b ws s)
-    unfolding astray said after-text told textRefusal heldBy pick
-    text-by true e q f = on-text ∙ ap (λ n. unless n after-text) (first-fails 26 _ _ e) ∙ ap told (sym (for-astray e))
-    text-by false e true f =
-        let held : heldBy b said ws (s .depth) ≡ (false, ws) = simp f in
-        on-text ∙ ap (λ n. unless n after-text) (first-passes 26 _ _ e ∙ first-fails 27 _ _ f) ∙ ap told (sym (for-held (false, ws) e held))
-    text-by false e false f =
-        let w : List ℕ = stagedAt (joinedAt ws (s .depth) (leavesOf (b .states) (b .reads said))) (s .depth) 2 in
-        let held : heldBy b said ws (s .depth) ≡ (true, w) = simp f in
+    text-by : (e : ℕ) → unless e after-text ≡ nextOf (textStep s k e) (heldAt e b said ws (s .depth)) m
+    unfolding said after-text heldAt
+    text-by zero =
         let at : s .place + (2 + k) ≡ s .place + (k + 2) = omega arith in
-        on-text ∙ ap (λ n. unless n after-text) (first-passes 26 _ _ e ∙ first-passes 27 _ _ f ∙ first-end)
-        ∙ ap on (sym (text-reading (leavesOf (b .states) (b .reads said)) (s .place + (2 + k)))) ∙ rw at refl ∙ ap told (sym (for-held (true, w) e held))
+        ap on (sym (text-reading (leavesOf (b .states) (b .reads said)) (s .place + (2 + k)))) ∙ rw at refl
+    text-by (suc e) = refl
 
     pub text-agrees : onText (asking b) (readingOf ws m s) (2 + k) (part body (s .place + 2) k) ≡ nextOf (textFor k body b ws s .0) (textFor k body b ws s .1) m
-    unfolding said told
-    text-agrees = text-by astray refl (outOfRange b said) refl
+    unfolding said textFor heldBy pick
+    text-agrees = simp (le-ltb _ _ whole) (on-text ∙ text-by (textRefusal (s .depth) (stageIn ws (s .depth)) (outOfRange b said)))
 
   module _ (inside : 0 < s .depth) where
     under-split : levelsUnder ws (s .depth) ≡ levelOf ws (s .depth - 1) ∷ levelsUnder ws (s .depth - 1)
@@ -238,29 +219,16 @@ module _ (b : Meaning) (ws m : List ℕ) (s : Reader) (has : HasLevel ws (s .dep
         let a : List ℕ × Carried = askNext (b .states) (asksAt ws (s .depth)) (carriedIn m (s .counts)) in
         rw under-split (ap on (sym (shut-reading (a .0) (a .1))))
 
-  module _ (body : List ℕ) (whole : 3 ≤ length body - s .place) where
-    on-end : (x : ℕ) → onEnd (asking b) (readingOf ws m s) 3 x
-        ≡ unless (endRefusal (s .depth) (labelIn ws (s .depth)) x) (shutInto (asking b) (readingOf ws m s) 3 (levelsUnder ws (s .depth)))
-    unfolding readingOf
-    on-end x = rw (under-long ws (s .depth)) refl
+  on-end : (x : ℕ) → onEnd (asking b) (readingOf ws m s) 3 x
+      ≡ unless (endRefusal (s .depth) (labelIn ws (s .depth)) x) (shutInto (asking b) (readingOf ws m s) 3 (levelsUnder ws (s .depth)))
+  unfolding readingOf
+  on-end x = rw (under-long ws (s .depth)) refl
 
-    end-by : (p : Bool) → eqb (s .depth) 0 ≡ p → (q : Bool) → eqb (le2 body (s .place + 1)) (labelIn ws (s .depth)) ≡ q →
-        onEnd (asking b) (readingOf ws m s) 3 (le2 body (s .place + 1)) ≡ ending (endOf body b ws m s)
-    unfolding endRefusal
-    end-by true e q f =
-        on-end (le2 body (s .place + 1)) ∙ ap (λ n. unless n (shutInto (asking b) (readingOf ws m s) 3 (levelsUnder ws (s .depth)))) (first-fails 28 _ _ (ap (λ t. t || not (eqb (le2 body (s .place + 1)) (labelIn ws (s .depth)))) e))
-        ∙ ap ending (end-none body b ws m s whole (eqb-true (s .depth) 0 e))
-    end-by false e false f =
-        let deep0 : s .depth ≡ 0 → ⊥ = eqb-false (s .depth) 0 e in
-        let differs : le2 body (s .place + 1) ≡ labelIn ws (s .depth) → ⊥ = eqb-false (le2 body (s .place + 1)) (labelIn ws (s .depth)) f in
-        on-end (le2 body (s .place + 1)) ∙ ap (λ n. unless n (shutInto (asking b) (readingOf ws m s) 3 (levelsUnder ws (s .depth)))) (first-fails 28 _ _ (ap₂ (λ t u. t || not u) e f))
-        ∙ ap ending (end-other body b ws m s whole deep0 (le2 body (s .place + 1)) (labelIn ws (s .depth)) refl refl differs)
-    end-by false e true f =
-        let deep0 : s .depth ≡ 0 → ⊥ = eqb-false (s .depth) 0 e in
-        let own : le2 body (s .place + 1) ≡ labelIn ws (s .depth) = eqb-true (le2 body (s .place + 1)) (labelIn ws (s .depth)) f in
-        let c : List ℕ × Carried = closeOf (b .states) ws (s .depth) (carriedIn m (s .counts)) in
-        on-end (le2 body (s .place + 1)) ∙ ap (λ n. unless n (shutInto (asking b) (readingOf ws m s) 3 (levelsUnder ws (s .depth)))) (first-passes 28 _ _ (ap₂ (λ t u. t || not u) e f) ∙ first-end)
-        ∙ shut-agrees (omega arith) ∙ ap ending (end-own body b ws m s whole deep0 (le2 body (s .place + 1)) (labelIn ws (s .depth)) refl refl (countsIn (c .1)) (c .0) (c .1 .kept .memory) own refl)
-
-    pub end-agrees : onEnd (asking b) (readingOf ws m s) 3 (le2 body (s .place + 1)) ≡ nextOf (endOf body b ws m s .0) (endOf body b ws m s .1) (endOf body b ws m s .2)
-    end-agrees = end-by (eqb (s .depth) 0) refl (eqb (le2 body (s .place + 1)) (labelIn ws (s .depth))) refl
+  pub end-agrees : (x : ℕ) → onEnd (asking b) (readingOf ws m s) 3 x ≡ ending (endFor x b ws m s)
+  unfolding endFor endBy
+  end-agrees x = on-end x ∙ go (endRefusal (s .depth) (labelIn ws (s .depth)) x) refl
+    where
+      go : (e : ℕ) → endRefusal (s .depth) (labelIn ws (s .depth)) x ≡ e →
+          unless e (shutInto (asking b) (readingOf ws m s) 3 (levelsUnder ws (s .depth))) ≡ ending (endBy e b ws m s)
+      go zero h = shut-agrees (end-inside (s .depth) (labelIn ws (s .depth)) x 0 (sym h) refl)
+      go (suc e) h = refl

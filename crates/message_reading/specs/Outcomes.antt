@@ -1,15 +1,9 @@
 -- What a message that is read leaves: the rules' outcome, the counts' bounds, and the workspace past the levels as it was.
 use mathlib.Core.Path.{_≡_, refl, sym, _∙_, ap, ap₂, subst}
-use mathlib.Core.Bool.{Bool, true, false, _&&_, not, and-eq-true-iff}
 use mathlib.Core.List.{List, []}
 use Prim.Native.Nat.{ℕ, zero, suc, _+_, _-_, _<_, _≤_}
 use native.Mathlib.Omega.{arith}
-use lib.Dec.{eqb}
 use lib.ListN.{length, drop, drop-of-length-le}
-use borrow.Author.Tests.{eqb-true}
-use Rattle.lists.specs.Choice.{pick}
-use Rattle.lists.specs.Choice.Laws.{pick-cases}
-use Rattle.lists.specs.Checks.Laws.{first-fails, first-passes, first-end}
 use Rattle.rules.specs.Book.{Meaning}
 use Rattle.rules.specs.Message.{Outcome, placeOf, outcome, events, begin, message, lastRefusal}
 use Rattle.rules.specs.Sets.{noStates}
@@ -22,9 +16,11 @@ use Rattle.message_events.specs.declared.Reader.{Reader}
 use Rattle.message_events.specs.declared.Step.{Step}
 use Rattle.message_events.specs.declared.Step.the-variants.{Next as Onward, Refused}
 use Rattle.message_events.specs.Meant.{Stepped, goesOn, refusedAt, meant}
-use Rattle.message_events.specs.Step.{stepOf, IndexedNext}
+use Rattle.message_events.specs.Step.{IndexedNext}
+use Rattle.message_step.specs.Kinds.{stepOf}
+use Rattle.message_finish.specs.declared.Ended.{Ended}
+use Rattle.message_finish.specs.Finish.{finished, last-top}
 use Rattle.memory_index.specs.Index.{Indexed}
-use Rattle.message_reading.specs.declared.Ended.{Ended}
 use Rattle.message_reading.specs.Agree.{levelsUnder, readingOf, under-long}
 use Rattle.message_reading.specs.Turn.{Rose, Moved, moved-none, moved-more, Turn, step-turn}
 use Rattle.book_plan.specs.Plan.{Planned, meaningIn}
@@ -57,21 +53,6 @@ pub record ReadMessage (body : List ℕ) (b : Meaning) (ws m : List ℕ) (c : Co
   pub room : workspaceWidth ≤ length w
   pub past : drop workspaceWidth w ≡ drop workspaceWidth ws
   pub rose : Rose c (r .counts) (length body)
-
-unfoldable pub finished : Reader → ℕ → List ℕ → Ended
-finished s n ws =
-    pick (eqb (s .depth) 0 && eqb (stageIn ws (s .depth)) 1) (record { refusal = 0; place = 0; counts = s .counts }) (record { refusal = 29; place = n; counts = s .counts })
-
-module _ (s : Reader) (n : ℕ) (ws : List ℕ) (stage : ℕ) (is : stage ≡ stageIn ws (s .depth)) where
-  pub finish-read : eqb (s .depth) 0 && eqb stage 1 ≡ true → record { refusal = 0; place = 0; counts = s .counts } ≡ finished s n ws
-  unfolding finished pick
-  finish-read e = simp (rw is at e)
-
-  pub finish-open : eqb (s .depth) 0 && eqb stage 1 ≡ false → record { refusal = 29; place = n; counts = s .counts } ≡ finished s n ws
-  unfolding finished pick
-  finish-open e = simp (rw is at e)
-
-pub ruleset finish-laws = (finish-read, finish-open)
 
 -- ── the loop ──
 pub record Going (body : List ℕ) (b : Meaning) (ws₀ m₀ : List ℕ) (s₀ : Reader) (ws m : List ℕ) (s : Reader) : Type 0 where
@@ -143,38 +124,24 @@ module _ (body : List ℕ) (b : Meaning) (ws₀ m₀ : List ℕ) (s₀ : Reader)
         stage-is : ((readingOf ws m s) .top) .stage ≡ stageIn ws (s .depth)
         stage-is = unfold readingOf in refl
 
-    abbrev Finished : Ended → Type 0
-    Finished r = ReadFrom body b ws₀ m₀ s₀ r ws m
-
-    whole : (r : Ended) → Says (outcome (readingOf ws m s) (lastRefusal (s .depth) (stageIn ws (s .depth)))) r ws m → r .counts ≡ s .counts → Finished r
-    whole r h i = record { says = rw ends h; long = g .moved .long; past = g .moved .past; rose = rw i rose-all }
-
     -- level 0 is the root's
     root-held : s .depth ≡ 0 → setAt ws 0 ≡ ((readingOf ws m s) .top) .held
     unfolding readingOf
     root-held e = rw e
 
-    last-read : eqb (s .depth) 0 && eqb (stageIn ws (s .depth)) 1 ≡ true → lastRefusal (s .depth) (stageIn ws (s .depth)) ≡ 0
-    unfolding lastRefusal
-    last-read e = first-passes 29 _ _ (ap not e) ∙ first-end
-
-    last-open : eqb (s .depth) 0 && eqb (stageIn ws (s .depth)) 1 ≡ false → lastRefusal (s .depth) (stageIn ws (s .depth)) ≡ 29
-    unfolding lastRefusal
-    last-open e = first-fails 29 _ _ (ap not e)
-
-    finish-by : (p : Bool) → eqb (s .depth) 0 && eqb (stageIn ws (s .depth)) 1 ≡ p → Finished (finished s (length body) ws)
-    unfolding readingOf
-    finish-by true e =
-        rw (← finish-read s (length body) ws (stageIn ws (s .depth)) refl e)
-        (whole (record { refusal = 0; place = 0; counts = s .counts })
-        (rw (last-read e) (record { refusal = refl; place = refl; carried = refl; root = λ k. root-held (eqb-true (s .depth) 0 (((and-eq-true-iff (eqb (s .depth) 0) (eqb (stageIn ws (s .depth)) 1)) .0 e) .0)) })) refl)
-    finish-by false e =
-        rw (← finish-open s (length body) ws (stageIn ws (s .depth)) refl e)
-        (whole (record { refusal = 29; place = length body; counts = s .counts })
-        (rw (last-open e) (record { refusal = refl; place = sym full; carried = refl; root = λ k. absurd (omega arith) })) refl)
-
-    going-end : (r : Ended) → r ≡ finished s (length body) ws → Finished r
-    going-end r e = rw e (finish-by (eqb (s .depth) 0 && eqb (stageIn ws (s .depth)) 1) refl)
+    going-end : (r : Ended) → r ≡ finished s (length body) ws → ReadFrom body b ws₀ m₀ s₀ r ws m
+    unfolding finished readingOf
+    going-end r e = rw e (record {
+      says = rw ends (record {
+        refusal = refl;
+        place = ap (placeOf (lastRefusal (s .depth) (stageIn ws (s .depth)))) (sym full);
+        carried = refl;
+        root = λ k. root-held (last-top (s .depth) (stageIn ws (s .depth)) k);
+      });
+      long = g .moved .long;
+      past = g .moved .past;
+      rose = rose-all;
+    })
 
 -- ── the whole message: level 0 opened, and the events from place 0 on ──
 pub read-whole : (body : List ℕ) (b : Meaning) (ws u m w v : List ℕ) (c : Counts) (r : Ended) → workspaceWidth ≤ length ws → u ≡ openedAt ws 0 0 →
@@ -206,7 +173,7 @@ pub indexed-end : (x m ws : List ℕ) (s : Reader) (n : ℕ) (r : Ended) → Ind
 indexed-end x m ws s n r h e = let f : r .counts .filled ≡ s .counts .filled = ap (λ (z : Ended). z .counts .filled) e ∙ same in rw f h
   where
     same : (finished s n ws) .counts .filled ≡ s .counts .filled
-    same = unfold finished in pick-cases (λ (z : Ended). z .counts .filled ≡ s .counts .filled) (eqb (s .depth) 0 && eqb (stageIn ws (s .depth)) 1) (λ k. refl) (λ k. refl)
+    same = unfold finished in refl
 
 -- what the loop keeps: the reading, the index of the memory, and the lengths of what is lent
 pub record ReadingOn (body plan x₀ m₀ ws₀ : List ℕ) (s₀ : Reader) (x m ws : List ℕ) (s : Reader) : Type 0 where

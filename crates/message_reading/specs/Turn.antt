@@ -1,6 +1,5 @@
 -- One turn of the loop that reads a message: an event leads on, or is refused, as the rules say.
 use mathlib.Core.Path.{_≡_, refl, sym, _∙_, ap, subst}
-use mathlib.Core.Bool.{Bool, _||_, not}
 use mathlib.Core.List.{List, _∷_}
 use Prim.Native.Nat.{ℕ, zero, suc, _+_, _-_, _<_, _≤_}
 use native.Mathlib.Omega.{arith}
@@ -14,7 +13,7 @@ use Rattle.lists.specs.Choice.Laws.{pick-cases}
 use Rattle.rules.specs.Book.{Meaning, outOfRange}
 use Rattle.rules.specs.Bytes.{le2}
 use Rattle.rules.specs.State.{attribute}
-use Rattle.rules.specs.Message.{Event, start, end, text, bad, got, labelled, texted, firstEvent, startRefusal, stageAfter, outcome, onEvent, events}
+use Rattle.rules.specs.Message.{Event, start, end, text, bad, got, labelled, texted, firstEvent, startRefusal, textRefusal, endRefusal, stageAfter, outcome, onEvent, events}
 use Rattle.rules.specs.Sets.{leavesOf, Question}
 use Rattle.rules.specs.Memory.{Kept, ask}
 use Rattle.rules.specs.Pass.{asking}
@@ -23,13 +22,17 @@ use Rattle.rules.specs.Run.{workspaceWidth}
 use Rattle.rules.specs.Run.Laws.{accepted-event, refused-event}
 use Rattle.message_levels.specs.Level.{HasLevel, OneLevel, labelIn, stageIn, asksAt, openedAt, stagedAt, joinedAt}
 use Rattle.message_levels.specs.Laws.{opened-one, staged-one, joined-one, has-still}
+use Rattle.message_starts.specs.Starts.{childOpened, start-room}
+use Rattle.message_texts.specs.Texts.{heldAt, heldBy}
+use Rattle.message_ends.specs.Ends.{closeOf, end-inside}
 use Rattle.memory_ask.specs.declared.Counts.{Counts}
 use Rattle.memory_ask.specs.Ask.{carriedIn}
 use Rattle.memory_ask.specs.Laws.{ask-anew}
 use Rattle.message_events.specs.declared.Reader.{Reader}
 use Rattle.message_events.specs.Meant.{Stepped, goesOn, refusedAt}
-use Rattle.message_events.specs.Step.{past, childOpened, startBy, startFor, startOf, heldBy, textStep, textFor, textOf, closeOf, endOf, beside, stepOf}
-use Rattle.message_events.specs.Laws.{start-room, text-cut, end-short}
+use Rattle.message_events.specs.Step.{past, startBy, startFor, startOf, textStep, textFor, textOf, endBy, endFor, endOf}
+use Rattle.message_events.specs.Laws.{text-cut}
+use Rattle.message_step.specs.Kinds.{beside, stepOf}
 use Rattle.message_reading.specs.Agree.{readingOf, nextOf, labelled-there, labelled-cut, texted-none, texted-there, texted-cut, start-agrees, text-agrees, end-agrees}
 
 -- counts that rose by n at most
@@ -101,14 +104,9 @@ module _ (body ws m : List ℕ) (s : Reader) (has : HasLevel ws (s .depth)) wher
   unfolding startFor
   start-sound x whole = start-by x (startRefusal (s .depth) (labelIn ws (s .depth)) (stageIn ws (s .depth)) x) whole refl
 
-  text-sound : (b : Meaning) (k : ℕ) → k + 2 ≤ length body - s .place → Ok (2 + k) (textFor k body b ws s)
-  unfolding textFor heldBy
-  text-sound b k whole =
-      let said = part body (s .place + 2) k in
-      pick-cases (Ok (2 + k)) (past body s (k + 2)) (λ e. stays 22 (2 + k))
-      (λ e. pick-cases (Ok (2 + k)) (eqb (s .depth) 0 || not (eqb (stageIn ws (s .depth)) 0)) (λ f. stays 26 (2 + k))
-      (λ f. pick-cases (λ (h : Bool × List ℕ). Ok (2 + k) (textStep s k (h .0), h .1)) (outOfRange b said) (λ g. stays 27 (2 + k))
-      (λ g.
+  text-by : (b : Meaning) (k e : ℕ) (said : List ℕ) → k + 2 ≤ length body - s .place → Ok (2 + k) (textStep s k e, heldAt e b said ws (s .depth))
+  unfolding heldAt
+  text-by b k zero said whole =
       let d : ℕ = s .depth in
       let w : List ℕ = joinedAt ws d (leavesOf (b .states) (b .reads said)) in
       let one : OneLevel ws w d = joined-one ws d has (leavesOf (b .states) (b .reads said)) in
@@ -123,24 +121,29 @@ module _ (body ws m : List ℕ) (s : Reader) (has : HasLevel ws (s .depth)) wher
           past = two .past ∙ one .past;
           rose = record { asked = omega arith; anew = omega arith };
         },
-      ))))
+      )
+  text-by b k (suc e) said whole = stays (suc e) (2 + k)
+
+  text-sound : (b : Meaning) (k : ℕ) → k + 2 ≤ length body - s .place → Ok (2 + k) (textFor k body b ws s)
+  unfolding textFor heldBy
+  text-sound b k whole =
+      let said : List ℕ = part body (s .place + 2) k in
+      pick-cases (Ok (2 + k)) (past body s (k + 2)) (λ e. stays 22 (2 + k))
+      (λ e. text-by b k (textRefusal (s .depth) (stageIn ws (s .depth)) (outOfRange b said)) said whole)
 
 module _ (body : List ℕ) (b : Meaning) (ws m : List ℕ) (s : Reader) (has : HasLevel ws (s .depth)) where
   abbrev Fine : ℕ → Stepped × List ℕ × List ℕ → Type 0
   Fine size y = Sound body ws m s size (y .0) (y .1) (y .2)
 
-  end-sound : 3 ≤ length body - s .place → Fine 3 (endOf body b ws m s)
-  unfolding endOf closeOf
-  end-sound whole =
+  end-by : (x e : ℕ) → 3 ≤ length body - s .place → endRefusal (s .depth) (labelIn ws (s .depth)) x ≡ e → Fine 3 (endBy e b ws m s)
+  unfolding endBy closeOf
+  end-by x zero whole h =
       let q : Question = asksAt ws (s .depth) in
       let k : Kept = carriedIn m (s .counts) .kept in
-      pick-cases (Fine 3) (past body s 3) (λ e. (refl, refl, refl))
-      (λ e. pick-cases (Fine 3) (eqb (s .depth) 0) (λ f. (refl, refl, refl))
-      (λ f. pick-cases (Fine 3) (eqb (le2 body (s .place + 1)) (labelIn ws (s .depth)))
-      (λ g.
+      let inside : 0 < s .depth = end-inside (s .depth) (labelIn ws (s .depth)) x 0 (sym h) refl in
       let d : ℕ = s .depth - 1 in
       let a : List ℕ = (ask (b .states) q k) .answer in
-      let low : HasLevel ws d = record { within = omega arith; room = has .room } in
+      let low : HasLevel ws d = record { within = omega (arith, has .within); room = has .room } in
       let one : OneLevel ws (joinedAt ws d a) d = joined-one ws d low a in (
         refl,
         record {
@@ -151,7 +154,12 @@ module _ (body : List ℕ) (b : Meaning) (ws m : List ℕ) (s : Reader) (has : H
           past = one .past;
           rose = record { asked = omega arith; anew = omega (arith, ask-anew (b .states) q k) };
         },
-      )) (λ g. (refl, refl, refl))))
+      )
+  end-by x (suc e) whole h = (refl, refl, refl)
+
+  end-sound : (x : ℕ) → 3 ≤ length body - s .place → Fine 3 (endFor x b ws m s)
+  unfolding endFor
+  end-sound x whole = end-by x (endRefusal (s .depth) (labelIn ws (s .depth)) x) whole refl
 
   -- ── the turn ──
   abbrev pub Turn : Stepped → List ℕ → List ℕ → Type 0
@@ -232,17 +240,16 @@ module _ (body : List ℕ) (b : Meaning) (ws m : List ℕ) (s : Reader) (has : H
         ])
 
     end-turn : kind ≡ 3 → Turned (endOf body b ws m s)
-    unfolding firstEvent rest
+    unfolding endOf firstEvent rest
     end-turn e =
         let first : firstEvent kind rest ≡ labelled end rest = rw e refl in
-        elim (decLt (length body - s .place) 3) [
-          | yes h ↦ subst Turned (end-short body b ws m s h) (turn-bad 22 (omega arith) (first ∙ labelled-cut end body (s .place) h))
-          | no h ↦
-              let whole : 3 ≤ length body - s .place = omega arith in
-              let x : ℕ = le2 body (s .place + 1) in
-              turn-got (end x) 3 (omega arith) (first ∙ labelled-there end body (s .place) whole) (endOf body b ws m s .0) (endOf body b ws m s .1) (endOf body b ws m s .2)
-              (end-agrees b ws m s has body whole) (end-sound whole)
-        ]
+        pick-cases Turned (past body s 3)
+        (λ f. turn-bad 22 (omega arith) (first ∙ labelled-cut end body (s .place) (ltb-true _ _ f)))
+        (λ f.
+        let whole : 3 ≤ length body - s .place = ltb-false _ _ f in
+        let x : ℕ = le2 body (s .place + 1) in
+        let y : Stepped × List ℕ × List ℕ = endFor x b ws m s in
+        turn-got (end x) 3 (omega arith) (first ∙ labelled-there end body (s .place) whole) (y .0) (y .1) (y .2) (end-agrees b ws m s has x) (end-sound x whole))
 
     -- whatever the event is
     pub step-turn : Turned (stepOf body b ws m s)

@@ -2,7 +2,6 @@
 // a day's messages.
 // Read specs/Agree first: it ties the workspace and the memory to the reading of the rules, event by event; then
 // specs/Outcomes, what a message leaves.
-ghost use mathlib.Core.Path.{_≡_};
 ghost use Prim.Native.Nat.{_≤_};
 ghost use lib.ListN.{length};
 ghost use Rattle.lists.specs.Lending.{was, left};
@@ -10,38 +9,11 @@ ghost use Rattle.rules.specs.Run.{workspaceWidth};
 ghost use Rattle.book_plan.specs.Plan.{meaningIn};
 ghost use Rattle.memory_index.specs.Index.{Indexed};
 ghost use Rattle.message_levels.specs.Level.{HasLevel};
-ghost use Rattle.message_reading.specs.Outcomes.{CanRead, finished, ReadFrom, ReadMessage};
+ghost use Rattle.message_reading.specs.Outcomes.{CanRead, ReadFrom, ReadMessage};
 use memory_ask::Counts;
 use message_events::Reader;
 use message_events::Step;
-
-// A message's refusal and place, 0 and 0 where it is read, and the counts after it.
-pub struct Ended {
-    pub refusal: u64,
-    pub place: usize,
-    pub counts: Counts,
-}
-
-// After the last event: the top element never came or is still open, or the message is read.
-fn finish(s: Reader, body: &[u8], workspace: &[u64]) -> Ended
-    requires { ⌜ HasLevel (now workspace) (s .depth) ⌝ }
-    ensures { λ r. ⌜ r ≡ finished s (length (was body)) (was workspace) ⌝ }
-{
-    let depth = s.depth;
-    let counts = s.counts;
-    if (depth == 0) & (message_levels::stage_of(workspace, depth) == 1) {
-        return Ended {
-            refusal: 0,
-            place: 0,
-            counts: counts,
-        };
-    }
-    Ended {
-        refusal: 29,
-        place: body.len(),
-        counts: counts,
-    }
-}
+use message_finish::Ended;
 
 // The events from the reader's place on.
 fn read_on(
@@ -61,7 +33,7 @@ fn read_on(
 {
     let mut s = from;
     while s.place < body.len() {
-        match s.step(body, plan, index, memory, workspace) {
+        match message_step::step(s, body, plan, index, memory, workspace) {
             Step::Next(t) => {
                 s = t;
             }
@@ -75,7 +47,7 @@ fn read_on(
             }
         }
     }
-    finish(s, body, workspace)
+    message_finish::finish(s, body, workspace)
 }
 
 // A message, from the root's level on.

@@ -1,7 +1,7 @@
 // The value of a text as an i32, and the six signed comparisons. Its `pub` is for sister crates only; neither
 // function has a premise, and neither is a public call.
 // Crate rules says what a text's value is (Value) and what the relations are (State); specs/Meant says which of those
-// values an answer is. Read specs/Meant first, then text_value from the bottom up. Read next: set_work.
+// values an answer is. Read specs/Meant first, then text_value from the bottom up. Read next: set_leaves.
 ghost use mathlib.Core.Path.{_≡_};
 ghost use Prim.Native.Nat.{_≤_};
 ghost use lib.ListN.{length, take, drop};

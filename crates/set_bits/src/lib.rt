@@ -1,6 +1,6 @@
 // Sets of states: eight 64-bit numbers, each function one equation to rules/specs/Sets.antt. Its `pub` is for sister
 // crates only.
-// State k is bit k mod 64 of number k div 64. Read next: set_work, which completes sets and works answers out.
+// State k is bit k mod 64 of number k div 64. Read next: set_complete, which completes a set by a plan.
 ghost use mathlib.Core.Path.{_≡_};
 ghost use Prim.Native.Nat.{_<_, _≤_};
 ghost use lib.ListN.{length};

@@ -17,7 +17,7 @@ use Rattle.rules.specs.Match.{filtersWhere}
 use Rattle.rules.specs.Sets.{setWidth, has, completed}
 use Rattle.book_plan.specs.Plan.{statesIn, PlanOf}
 use Rattle.book_contents.specs.BookAccepted.{BookAccepted, states-rise}
-use Rattle.set_work.specs.Loops.{completedSet, completed-bit}
+use Rattle.set_complete.specs.Completing.{completedSet, completed-bit}
 
 -- ── one flag ──
 pub flag-on : (b : Bool) (k : ℕ) → b ≡ true → k < mostFilters → (1 * 2 ^ k) % 2 ^ 64 ≡ bit b * 2 ^ k

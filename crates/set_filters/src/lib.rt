@@ -44,7 +44,7 @@ fn filters_in(book: &[u8], plan: &[u64], set: &[u64], done: &mut [u64]) -> u64
     requires { ⌜ (length (now set) ≡ setWidth) × (length (now done) ≡ setWidth) ⌝ }
     ensures { λ r. ⌜ r ≡ filtersWhere (was book) (completed (statesOf (was book)) (was set)) ⌝ }
 {
-    set_work::complete(plan, set, done);
+    set_complete::complete(plan, set, done);
     filters_of(book, done)
 }
 

@@ -1,5 +1,3 @@
--- What the code says of one state, and what its loops over the states have done after some turns.
+-- What the code says of one state, what its loop over the states has answered after some turns, and the working out.
 pub mod OneState
-pub mod Putting
-pub mod Loops
-pub mod Leaves
+pub mod Answering

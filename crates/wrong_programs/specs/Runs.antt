@@ -1,5 +1,6 @@
--- Section "What has to be nailed to the definitions": what each wrong program gives for the small day, and that the
--- run's promise does not allow it. All but the wrong part is as the run gives it, so it is this part that is refused.
+-- Section "What has to be nailed to the definitions": what each wrong program gives for three messages of the small
+-- day, and that the run's promise does not allow it. All but the wrong part is as the run gives it, so it is this part
+-- that is refused.
 use mathlib.Core.Path.{_≡_, refl, ap}
 use mathlib.Core.List.{List, [], _∷_, _++_}
 use Prim.Native.Nat.{ℕ, zero, suc, _+_, _*_}
@@ -21,9 +22,16 @@ use Rattle.rules.specs.ASmallDay.Examples.{lending, runShown, full, wrongSlot}
 use Rattle.rules.specs.ASmallDay as Small
 
 -- ── words ──
--- the small day with 64 slots, and what the run gives for it
+-- a day of messages 3 and 4 of the small day, and 4 again: service with day 6 and an empty call, service, service
+abbrev pub day : List ℕ
+day = 3 ∷ 0 ∷
+    26 ∷ 0 ∷ 0 ∷ 0 ∷ 21 ∷ 0 ∷ 0 ∷ 0 ∷ 47 ∷ 0 ∷ 0 ∷ 0 ∷ 6 ∷ 0 ∷ 0 ∷ 0 ∷ 53 ∷ 0 ∷ 0 ∷ 0 ∷ 6 ∷ 0 ∷ 0 ∷ 0 ∷
+    1 ∷ 1 ∷ 0 ∷ 1 ∷ 4 ∷ 128 ∷ 2 ∷ 1 ∷ 54 ∷ 3 ∷ 4 ∷ 128 ∷ 1 ∷ 2 ∷ 0 ∷ 3 ∷ 2 ∷ 0 ∷ 3 ∷ 1 ∷ 0 ∷
+    1 ∷ 1 ∷ 0 ∷ 3 ∷ 1 ∷ 0 ∷ 1 ∷ 1 ∷ 0 ∷ 3 ∷ 1 ∷ 0 ∷ []
+
+-- lent with 4 slots, and what the run gives for it: rows 0 0 6, 0 0 2 and 0 0 2, 5 questions, 4 of them worked out anew
 abbrev pub small : Lent
-small = lending (record { book = Small.book; day = Small.day; slots = 64; expected = [] })
+small = lending (record { book = Small.book; day = day; slots = 4; expected = [] })
 
 abbrev pub right : Returned
 right = run small
@@ -45,7 +53,7 @@ rowsBy row zero = []
 rowsBy row (suc k) = rowsBy row k ++ row k
 
 abbrev pub answersBy : (ℕ → List ℕ) → List ℕ
-answersBy row = rowsBy row (messageCount Small.day) ++ drop (rowWidth * messageCount Small.day) (small .answers)
+answersBy row = rowsBy row (messageCount day) ++ drop (rowWidth * messageCount day) (small .answers)
 
 -- ── refusing each run, by whatever number: shut out by the refusal table ──
 abbrev pub refusing : ℕ → Returned
@@ -55,15 +63,16 @@ pub refusing-shut : (e : ℕ) → RunPromise small (refusing e) → ⊥
 unfolding runShown
 refusing-shut e p = let d : suc e ≡ 0 = ap (λ g. g .refusal) p in omega arith
 
--- ── reporting one fixed set f of every message that is read, or no filter: demand 2; messages 1 and 3 have different ones, and neither has none ──
+-- ── reporting one fixed set f of every message that is read, or no filter: demand 2; messages 1 and 2 have different
+-- ones, and neither has none ──
 abbrev pub fixedSet : ℕ → Returned
 fixedSet f = withAnswers (answersBy (λ k. getD (right .answers) (rowWidth * k) 0 ∷ getD (right .answers) (rowWidth * k + 1) 0 ∷ pick (eqb (getD (right .answers) (rowWidth * k) 0) 0) f 0 ∷ []))
 
 pub fixed-shut : (f : ℕ) → RunPromise small (fixedSet f) → ⊥
 unfolding runShown
 fixed-shut f p =
-    let five : f ≡ 5 = ap (λ g. getD (g .answers) 2 0) p in
-    let six : f ≡ 6 = ap (λ g. getD (g .answers) 8 0) p in
+    let six : f ≡ 6 = ap (λ g. getD (g .answers) 2 0) p in
+    let two : f ≡ 2 = ap (λ g. getD (g .answers) 5 0) p in
     omega arith
 
 abbrev pub noFilter : Returned
@@ -80,28 +89,28 @@ pub nothing-shut : RunPromise small writingNothing → ⊥
 unfolding runShown
 nothing-shut p = let d : _≡_ {A = ℕ} 9 0 = ap (λ g. getD (g .answers) 0 0) p in omega arith
 
--- ── matching the first message and copying its row: demand 2; message 3 has filters 20 and 30, not 10 and 30 ──
+-- ── matching the first message and copying its row: demand 2; message 2 has filter 20, not 20 and 30 ──
 abbrev pub firstCopied : Returned
 firstCopied = withAnswers (answersBy (λ k. part (right .answers) 0 rowWidth))
 
 pub copied-shut : RunPromise small firstCopied → ⊥
 unfolding runShown
-copied-shut p = let d : _≡_ {A = ℕ} 5 6 = ap (λ g. getD (g .answers) 8 0) p in omega arith
+copied-shut p = let d : _≡_ {A = ℕ} 6 2 = ap (λ g. getD (g .answers) 5 0) p in omega arith
 
--- ── counting every question as anew, or none: demand 3; 8 of 17 are ──
+-- ── counting every question as anew, or none: demand 3; 4 of 5 are ──
 abbrev pub everyAnew : Returned
 everyAnew = withAnew (right .asked)
 
 pub every-shut : RunPromise small everyAnew → ⊥
 unfolding runShown
-every-shut p = let d : _≡_ {A = ℕ} 17 8 = ap (λ g. g .anew) p in omega arith
+every-shut p = let d : _≡_ {A = ℕ} 5 4 = ap (λ g. g .anew) p in omega arith
 
 abbrev pub noneAnew : Returned
 noneAnew = withAnew 0
 
 pub none-anew-shut : RunPromise small noneAnew → ⊥
 unfolding runShown
-none-anew-shut p = let d : _≡_ {A = ℕ} 0 8 = ap (λ g. g .anew) p in omega arith
+none-anew-shut p = let d : _≡_ {A = ℕ} 0 4 = ap (λ g. g .anew) p in omega arith
 
 -- ── working every question out, and keeping and counting as if kept answers had been used ──
 abbrev pub workingOut : List State → Question → Kept → Reply

@@ -70,7 +70,7 @@ fn ask_it(book: &[u8], memory: &mut [u64]) {
 fn pass_it(book: &[u8], memory: &mut [u64]) {
     let day =
         b"\x01\x00\x0a\x00\x00\x00\x0c\x00\x00\x00\x01\x01\x00\x01\x02\x00\x03\x02\x00\x03\x01\x00";
-    let mut answers = [9u64; day_pass::ROW];
+    let mut answers = [9u64; day_row::ROW];
     let mut workspace = [5u64; message_levels::WORKSPACE];
     let r = day_run::pass_from(book, day, memory, &mut answers, &mut workspace, 0, 5, 1);
     put_part(
@@ -79,7 +79,7 @@ fn pass_it(book: &[u8], memory: &mut [u64]) {
         0,
         4,
     );
-    put_part(b"row", &answers, 0, day_pass::ROW);
+    put_part(b"row", &answers, 0, day_row::ROW);
 }
 
 fn main() {

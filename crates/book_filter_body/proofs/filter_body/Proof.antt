@@ -11,5 +11,5 @@ filter-body-spec =
     (λ c. let h = part-inside _ _ (c .part-of .ensures) in search needs)  -- add-result
     (λ c. search needs)  -- sub-result
     (λ c. search needs)  -- part-result-start
-    (λ c. search (part-inside, needs))  -- part-result-end
+    (λ c. let h = part-inside _ _ (c .part-of .ensures) in search needs)  -- part-result-end
     (λ c. body-handed _ _ (c .before .part-of .ensures) _ (c .before .before .before .args .book .ptr .1)))  -- returns

@@ -1,4 +1,5 @@
-use Rattle.day_pass.specs.Passing.{Passing, passing-none, passing-there, passing-room, passing-levels, passing-asked, passing-anew, passing-more, passing-all, day-two}
+use Rattle.day_check.specs.DayAccepted.{day-two}
+use Rattle.day_pass.specs.Passing.{Passing, passing-none, passing-there, passing-room, passing-levels, passing-asked, passing-anew, passing-more, passing-all}
 use borrow.Author.Needs.{needs}
 use Prim.Native.Nat.{_-_}
 use Rattle.day_pass.proofs.all.Statement.{statement}

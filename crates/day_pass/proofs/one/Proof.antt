@@ -13,4 +13,7 @@ one-spec =
     (λ c. search needs)  -- same-length-2
     (λ c. search needs)  -- same-length-3
     (λ c. search needs)  -- same-length-4
-    (λ c. (search (message-written, needs), search needs)))  -- returns
+    (λ c.
+    let wrote = c .before .before .before in
+    let told = wrote .before .before .before .before .before .before .before .before .message .ensures in
+    (message-written _ _ _ _ _ _ _ _ _ _ _ (told .0) (wrote .write-row .ensures), told .1)))  -- returns

@@ -12,10 +12,13 @@ pass-from-spec =
     (λ c. search needs)  -- same-length
     (λ c. search needs)  -- same-length-2
     (λ c. search needs)  -- same-length-3
-    (λ c. search (from-refuses, needs))  -- returns
+    (λ c. from-refuses _ _ _ _ _ _ _ _ _ (c .before .before .pass-refusal .ensures) _ (c .refused .ensures) (c .before .if1 .taken))  -- returns
     (λ c κs. let told = c .before .before .before in from-accepts _ _ _ _ _ _ _ _ _ (told .before .pass-refusal .ensures) (told .if1 .left))  -- pass-alone-requires
     (λ c κs. search needs)  -- passed-with-requires
     (λ c. search needs)  -- same-length-4
     (λ c. search needs)  -- same-length-5
     (λ c. search needs)  -- same-length-6
-    (λ c. search (from-passes, needs)))  -- returns-2
+    (λ c.
+    let passed = c .before .before .before .before .before .before .before in
+    let told = passed .before .before .before .before in
+    from-passes _ _ _ _ _ _ _ _ _ (told .before .pass-refusal .ensures) _ _ _ _ _ (told .if1 .left) (c .passed-with .ensures) (passed .pass-alone .ensures)))  -- returns-2

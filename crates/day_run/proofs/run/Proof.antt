@@ -12,10 +12,13 @@ run-spec =
     (λ c. search needs)  -- same-length
     (λ c. search needs)  -- same-length-2
     (λ c. search needs)  -- same-length-3
-    (λ c. search (run-refuses, needs))  -- returns
+    (λ c. run-refuses _ _ _ _ _ _ (c .before .before .run-refusal .ensures) _ (c .refused .ensures) (c .before .if1 .taken))  -- returns
     (λ c κs. let told = c .before .before .before in run-accepts _ _ _ _ _ _ (told .before .run-refusal .ensures) (told .if1 .left))  -- pass-alone-requires
     (λ c κs. search needs)  -- passed-with-requires
     (λ c. search needs)  -- same-length-4
     (λ c. search needs)  -- same-length-5
     (λ c. search needs)  -- same-length-6
-    (λ c. search (run-passes, needs)))  -- returns-2
+    (λ c.
+    let passed = c .before .before .before .before .before .before .before in
+    let told = passed .before .before .before .before in
+    run-passes _ _ _ _ _ _ (told .before .run-refusal .ensures) _ _ _ _ _ (told .if1 .left) (c .passed-with .ensures) (passed .pass-alone .ensures)))  -- returns-2

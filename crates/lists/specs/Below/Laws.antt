@@ -37,18 +37,6 @@ someBelow-each p n i h l = go (p i) refl
     go true e = absurd (true≢false (sym (someBelow-hit p n i l e) ∙ h))
     go false e = e
 
--- where each fails, none passes
-pub none-below : (p : ℕ → Bool) (n : ℕ) → ((i : ℕ) → i < n → p i ≡ false) → someBelow p n ≡ false
-unfolding someBelow
-none-below p zero f = refl
-none-below p (suc n) f = rw (none-below p n (λ i h. f i (omega arith)), f n (omega arith))
-
--- the same test, number by number
-pub someBelow-same : (p q : ℕ → Bool) (n : ℕ) → ((i : ℕ) → i < n → p i ≡ q i) → someBelow p n ≡ someBelow q n
-unfolding someBelow
-someBelow-same p q zero f = refl
-someBelow-same p q (suc n) f = rw (someBelow-same p q n (λ i h. f i (omega arith)), f n (omega arith))
-
 -- a sum over the numbers below n: what it is with number k is at most the whole
 pub sum-rises : (sum size : ℕ → ℕ) → ((k : ℕ) → sum (suc k) ≡ sum k + size k) → (k n : ℕ) → k < n → sum k + size k ≤ sum n
 sum-rises sum size e k zero h = absurd (not-suc-le-zero h)

@@ -1,25 +1,16 @@
 -- The paper's own examples, proved of the definitions by computation. Sections "A small day, whole" and "On both sides".
 use mathlib.Core.Path.{_≡_, refl}
 use mathlib.Core.List.{List, [], _∷_, _++_, map}
-use Prim.Native.Nat.{ℕ, _+_, _-_, _*_}
-use lib.ListN.{length, take, drop, replicate}
-use Rattle.lists.specs.Choice.{pick}
-use Rattle.lists.specs.Below.{upTo, someBelow, flags}
-use Rattle.lists.specs.Checks.{firstOf}
-use Rattle.lists.specs.Parts.{part, patch}
-use Rattle.lists.specs.Same.{sameList}
-use Rattle.rules.specs.Bytes.{signed4}
-use Rattle.rules.specs.State.{fits}
-use Rattle.rules.specs.Book.{filterCount, idOf, bodyStart, bodySize, statesBefore, isRow, leadsWell, bookShort, idsFall, badSizes, bodiesAstray, badRows, badSuccessors, bookRefusal, relationOf, stateAt, statesOfFirst, statesOf, meaningOf, bodyAmong, bodyOf}
-use Rattle.rules.specs.DayFile.{messageCount, messageStart, messageLength, bytesBefore, messageBody, dayOff, messagesAstray}
-use Rattle.rules.specs.Value.{stripStart, stripBefore, stripEnd, digitsFrom, someDigits, wholeNumber, textValue, valueOf}
-use Rattle.rules.specs.Match.{settle, someChild, matches, filtersWhere, acceptedFilters}
-use Rattle.rules.specs.Message.{firstEvent, startRefusal, textRefusal, endRefusal, lastRefusal, events, message}
-use Rattle.rules.specs.Sets.{testEach, setOf, noStates, either, leavesOf, completed, workOut, Question}
-use Rattle.rules.specs.Memory.{slotWidth, keyOf, slotQuestion, slotAnswer, slotsLent, firstSlot, keep, replyBy, ask}
-use Rattle.rules.specs.Pass.{passMessage, answerRow, passTo}
-use Rattle.rules.specs.Run.{workspaceWidth, Lent, Returned, runRefusal, passDay, run}
-use Rattle.rules.specs.Asked.{readTree, questionOf, messageQuestions, questionsTo, dayQuestions, isAmong, without, different, firstDifferent, notKept, treeRows}
+use Prim.Native.Nat.{ℕ, _+_, _*_}
+use lib.ListN.{length, take, replicate}
+use Rattle.rules.specs.Book.{bookRefusal, meaningOf, bodyAmong, bodyOf}
+use Rattle.rules.specs.DayFile.{messageCount}
+use Rattle.rules.specs.Sets.{noStates}
+use Rattle.rules.specs.Memory.{slotWidth, keyOf, slotQuestion}
+use Rattle.rules.specs.Pass.{passMessage}
+use Rattle.rules.specs.Run.{workspaceWidth, Lent}
+use Rattle.rules.specs.Asked.Examples.{byTree}
+use Rattle.rules.specs.Run.Examples.{noisy, ran, shown}
 use Rattle.rules.specs.ASmallDay.{book, day, rangeEnds, edgeBook, edges}
 
 -- ── the run ──
@@ -32,21 +23,11 @@ pub record Example : Type 0 where
 
 -- lent with noise in it, and a little more than is needed
 abbrev pub lending : Example → Lent
-lending e = record {
-  book = e .book;
-  day = e .day;
-  memory = replicate (slotWidth * e .slots + 3) 7;
-  answers = replicate (3 * messageCount (e .day) + 2) 9;
-  workspace = replicate (workspaceWidth + 2) 5;
-}
-
--- refusal and counts, the whole of the answers, the last numbers of the workspace, the memory past the filled slots
-abbrev pub shown : Returned → List ℕ
-shown g = g .refusal ∷ g .asked ∷ g .anew ∷ g .filled ∷ (g .answers ++ drop (workspaceWidth - 2) (g .workspace) ++ drop (slotWidth * g .filled) (g .memory))
+lending e = noisy (e .book) (e .day) (slotWidth * e .slots + 3) (3 * messageCount (e .day) + 2) (workspaceWidth + 2)
 
 -- what stays as it was: two answers, two numbers of the workspace behind two that are 0, the slots that are free and three numbers
 abbrev pub untouched : ℕ → List ℕ
-untouched free = 9 ∷ 9 ∷ 0 ∷ 0 ∷ 5 ∷ 5 ∷ replicate (slotWidth * free + 3) 7
+untouched free = 9 ∷ 9 ∷ 0 ∷ 0 ∷ 5 ∷ 5 ∷ replicate (slotWidth * free + 3) 6
 
 -- the rows of the five messages: filters 10 and 30, 10 and 30, 20 and 30, 20, and refusal 24 at place 9
 abbrev pub five : List ℕ
@@ -62,23 +43,17 @@ examples =
     record { book = edgeBook; day = edges; slots = 64; expected = 0 ∷ 7 ∷ 6 ∷ 6 ∷ 0 ∷ 0 ∷ 4 ∷ 0 ∷ 0 ∷ 3 ∷ 0 ∷ 0 ∷ 0 ∷ 0 ∷ 0 ∷ 0 ∷ untouched 58 } ∷ []
 
 unfoldable pub runShown : Example → List ℕ
-unfolding run runRefusal passDay messageCount messageStart messageLength bytesBefore messageBody dayOff messagesAstray firstOf someBelow upTo flags part patch pick filterCount idOf bodyStart bodySize statesBefore isRow leadsWell bookShort idsFall badSizes bodiesAstray badRows badSuccessors relationOf stateAt statesOfFirst statesOf signed4 fits stripStart stripBefore stripEnd digitsFrom someDigits wholeNumber textValue settle filtersWhere firstEvent startRefusal textRefusal endRefusal lastRefusal events message testEach setOf either leavesOf completed workOut sameList slotQuestion slotAnswer slotsLent firstSlot keep replyBy ask passMessage answerRow passTo
-runShown e = shown (run (lending e))
+unfolding ran
+runShown e = shown (ran (lending e))
 
 -- the five messages, the three other slot counts, the four range ends, and four messages beside them
 pub worked : map runShown examples ≡ map (λ e. e .expected) examples
 unfolding runShown
 worked = refl
 
--- the rows, the count asked, and for 64, 0, 2 and 5 slots the counts worked out anew and filled
-abbrev pub byTree : List ℕ → List ℕ → List ℕ
-byTree b d =
-    let qs : List Question = dayQuestions b d in
-    let counts : ℕ → List ℕ = λ C. notKept C [] qs ∷ length (firstDifferent C qs) ∷ [] in
-    treeRows b d (messageCount d) ++ length qs ∷ (counts 64 ++ counts 0 ++ counts 2 ++ counts 5)
-
+-- the five messages by their trees, with the counts for 64, 0, 2 and 5 slots
 pub worked-on-trees : byTree book day ≡ five ++ 17 ∷ 8 ∷ 8 ∷ 17 ∷ 0 ∷ 14 ∷ 2 ∷ 9 ∷ 5 ∷ []
-unfolding runShown readTree acceptedFilters matches someChild valueOf dayQuestions questionsTo messageQuestions questionOf notKept firstDifferent different without isAmong
+unfolding byTree
 worked-on-trees = refl
 
 -- ── a wrong slot whose answer is eight full numbers ──

@@ -5,7 +5,7 @@ use mathlib.Core.List.{List, [], _∷_, _++_, map}
 use mathlib.Core.Option.{Option, none, some}
 use Prim.Native.Nat.{ℕ}
 use lib.IntN.{pos, negsuc}
-use lib.ListN.{replicate, take}
+use lib.ListN.{length, replicate, take}
 use Rattle.lists.specs.Choice.{pick}
 use Rattle.lists.specs.Below.{upTo, flags}
 use Rattle.lists.specs.Checks.{firstOf}
@@ -52,6 +52,8 @@ use Rattle.rules.specs.Message.{
 }
 use Rattle.rules.specs.Message.Examples.{begins, says, ends, all, mark, child}
 use Rattle.rules.specs.Sets.{testEach, setOf, Question}
+use Rattle.rules.specs.Memory.Examples.{asks}
+use Rattle.rules.specs.Pass.Examples.{book, day}
 use Rattle.rules.specs.Asked.{
   readTree,
   messageRow,
@@ -161,9 +163,6 @@ kinds-asked = refl
 abbrev pub six : List State
 six = STEP 2 1 ∷ AND 2 3 ∷ LEAF (compares equal (pos 7)) ∷ TRUE ∷ STEP 1 0 ∷ STEP 0 3 ∷ []
 
-abbrev pub asks : ℕ → ℕ → Question
-asks w x = record { states = w ∷ replicate 7 0; label = x }
-
 -- 2 that says 7 asks the LEAF; 1 asks STEP 2→1, since that child matches, and STEP 0→3; the others ask nothing
 abbrev pub questions : List Question
 questions = asks 0 32769 ∷ asks 4 2 ∷ asks 0 2 ∷ asks 33 1 ∷ []
@@ -218,19 +217,38 @@ among = refl
 abbrev pub six-asked : List Question
 six-asked = p ∷ q ∷ p ∷ r ∷ q ∷ p ∷ []
 
+unfoldable pub firstOnes : ℕ → List Question
+unfolding notKept isAmong firstDifferent different without sameList
+firstOnes C = firstDifferent C six-asked
+
 pub taken-out : without p six-asked ∷ without q six-asked ∷ different six-asked ∷ []
     ≡ (q ∷ r ∷ q ∷ []) ∷ (p ∷ p ∷ r ∷ p ∷ []) ∷ (p ∷ q ∷ r ∷ []) ∷ []
-unfolding different without sameList
+unfolding firstOnes
 taken-out = refl
 
-pub first-different : map (λ (C : ℕ). firstDifferent C six-asked) (0 ∷ 1 ∷ 2 ∷ 3 ∷ 4 ∷ [])
+pub first-different : map firstOnes (0 ∷ 1 ∷ 2 ∷ 3 ∷ 4 ∷ [])
     ≡ [] ∷ (p ∷ []) ∷ (p ∷ q ∷ []) ∷ (p ∷ q ∷ r ∷ []) ∷ (p ∷ q ∷ r ∷ []) ∷ []
-unfolding firstDifferent different without sameList
+unfolding firstOnes
 first-different = refl
 
 -- "not among the first C different ones asked earlier"; and of p, q, p where q was asked before them
 pub anew : map (λ (C : ℕ). notKept C [] six-asked) (0 ∷ 1 ∷ 2 ∷ 3 ∷ 4 ∷ []) ++ map (λ (C : ℕ). notKept C (q ∷ []) (p ∷
     q ∷ p ∷ [])) (0 ∷ 1 ∷ 2 ∷ [])
     ≡ 6 ∷ 4 ∷ 3 ∷ 3 ∷ 3 ∷ 3 ∷ 2 ∷ 1 ∷ []
-unfolding notKept isAmong firstDifferent different without sameList
+unfolding firstOnes
 anew = refl
+
+-- ── a day by its trees ──
+-- the rows, the count asked, and for 64, 0, 2 and 5 slots the counts worked out anew and filled
+unfoldable pub byTree : List ℕ → List ℕ → List ℕ
+unfolding rowsTo questionsUpTo firstOnes dayQuestions messageCount
+byTree b d =
+    let qs : List Question = dayQuestions b d in
+    let counts : ℕ → List ℕ = λ C. notKept C [] qs ∷ length (firstDifferent C qs) ∷ [] in
+    treeRows b d (messageCount d) ++ length qs ∷ (counts 64 ++ counts 0 ++ counts 2 ++ counts 5)
+
+-- three messages that the pass is made over in Pass/Examples: the same rows, and two of five questions asked again
+pub day-by-tree : byTree book day
+    ≡ 0 ∷ 0 ∷ 1 ∷ 21 ∷ 6 ∷ 0 ∷ 0 ∷ 0 ∷ 1 ∷ 5 ∷ 3 ∷ 3 ∷ 5 ∷ 0 ∷ 3 ∷ 2 ∷ 3 ∷ 3 ∷ []
+unfolding byTree
+day-by-tree = refl

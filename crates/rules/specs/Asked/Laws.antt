@@ -56,7 +56,7 @@ module _ (b : Meaning) (few : length (b .states) ≤ mostStates) where
   nothing-asked (STEP l s) here = no-child b l s
 
   pub asked-empty : askedSet b empty ≡ noStates
-  unfolding askedSet valueOf
+  unfolding askedSet
   asked-empty = setOf-agree (b .states) _ (λ s k. false) (λ k h. asked-own b empty k h ∙ nothing-asked (getD (b .states) k TRUE) (matches b empty)) ∙ sym none-setOf
 
   -- of a node whose text comes
@@ -71,7 +71,7 @@ module _ (b : Meaning) (few : length (b .states) ≤ mostStates) where
 
   pub asked-said : (s : List ℕ) (f : Forest) →
       askedSet b (record { text = some s; children = f }) ≡ either (askedSet b (record { text = none; children = f })) (leavesOf (b .states) (b .reads s))
-  unfolding askedSet leavesOf valueOf
+  unfolding askedSet leavesOf
   asked-said s f =
       let n : Content = record { text = some s; children = f } in
       let m : Content = record { text = none; children = f } in

@@ -6,7 +6,8 @@ use mathlib.Core.List.{List, [], _∷_, _++_, map}
 use Prim.Native.Nat.{ℕ, _-_, _^_, _+_}
 use lib.ListN.{replicate, take}
 use Rattle.rules.specs.Memory.{questionWidth as w, slotWidth, keyOf}
-use Rattle.rules.specs.Pass.Examples.{book, day, numbers, asks, slot}
+use Rattle.rules.specs.Memory.Examples.{numbers, asks}
+use Rattle.rules.specs.Pass.Examples.{book, day, slot}
 use Rattle.rules.specs.Run.{workspaceWidth, Lent}
 use Rattle.rules.specs.Run.Examples.{lending, ran, kept}
 use Rattle.rules.specs.Calls.{

@@ -28,6 +28,7 @@ use Rattle.rules.specs.State.{
   STEP,
   fits,
 }
+use Rattle.rules.specs.State.Examples.{signs}
 use Rattle.rules.specs.Book.{
   filterCount,
   bodyStart,
@@ -56,6 +57,7 @@ use Rattle.rules.specs.Value.{
 }
 use Rattle.rules.specs.Value.Examples.{long}
 use Rattle.rules.specs.Tree.{Forest, childless, tree, Content, empty}
+use Rattle.rules.specs.Written.Examples.{and-child, holding}
 use Rattle.rules.specs.Match.{
   testHolds,
   says,
@@ -68,8 +70,8 @@ use Rattle.rules.specs.Match.{
 }
 
 -- "no value, or no number, matches no LEAF, whichever the relation"; 4 to the constant 5
-pub leaves : map (λ (v : Value). map (λ (r : Relation). testHolds v (compares r (pos 5))) (equal ∷ differs ∷ below ∷ atMost ∷
-    above ∷ atLeast ∷ [])) (no-text ∷ no-number ∷ out-of-range ∷ number (pos 4) ∷ [])
+pub leaves : map (λ (v : Value). map (λ (r : Relation). testHolds v (compares r (pos 5))) signs) (
+    no-text ∷ no-number ∷ out-of-range ∷ number (pos 4) ∷ [])
     ≡ (false ∷ false ∷ false ∷ false ∷ false ∷ false ∷ []) ∷
     (false ∷ false ∷ false ∷ false ∷ false ∷ false ∷ []) ∷
     (false ∷ false ∷ false ∷ false ∷ false ∷ false ∷ []) ∷
@@ -86,13 +88,6 @@ pub kinds-say : map (λ (s : State). says s (number (pos 4)) (λ l s. eqb l 2 &&
 kinds-say = refl
 
 -- ── nodes ──
-abbrev pub holding : Option (List ℕ) → Forest → Content
-holding t f = record { text = t; children = f }
-
--- one more child, without children of its own
-abbrev pub and-child : Forest → ℕ → Option (List ℕ) → Forest
-and-child f x t = tree f x t childless
-
 -- states of a book that reads texts as the paper says
 abbrev pub reading : List State → Meaning
 reading b = record { states = b; reads = textValue }

@@ -143,7 +143,12 @@ pub starts-astray : Read (
 unfolding readOut
 starts-astray = refl
 
--- "at most 64 starts are open at once"; "25 a 65th open start", after 24
+-- "at most 64 starts are open at once"; "25 a 65th open start": an element where 63, 64 and 65 are open
+pub starts-open : map (λ (n : ℕ). startRefusal n 1 0 1) (63 ∷ 64 ∷ 65 ∷ []) ≡ 0 ∷ 25 ∷ 25 ∷ []
+unfolding readOut
+starts-open = refl
+
+-- after 24
 pub depth : Read (
     row (replicate 64 top ++ replicate 64 (ends 1)) 0 0 ∷
     row (replicate 63 top ++ mark ∷ replicate 63 (ends 1)) 0 0 ∷

@@ -38,23 +38,29 @@ use Rattle.rules.specs.Message.{
   message,
 }
 use Rattle.rules.specs.Message.Examples.{begins, says, ends, all, mark, child}
-use Rattle.rules.specs.Sets.{Question, testEach, setOf, either, leavesOf, completed, workOut}
-use Rattle.rules.specs.Memory.{slotWidth, keyOf, slotQuestion, slotAnswer, slotsLent, firstSlot, keep, replyBy, ask}
-use Rattle.rules.specs.Pass.{Carried, passMessage, answerRow, Passed, passTo}
+use Rattle.rules.specs.Sets.{testEach, setOf, either, leavesOf, completed, workOut}
+use Rattle.rules.specs.Memory.{
+  slotWidth,
+  keyOf,
+  slotQuestion,
+  slotAnswer,
+  slotsLent,
+  firstSlot,
+  keep,
+  replyBy,
+  ask,
+  askAll,
+}
+use Rattle.rules.specs.Memory.Examples.{numbers, asks, kept}
+use Rattle.rules.specs.Pass.{Carried, passMessage, answerRow, Passed, passTo, passQuestions}
 
 -- ids 7 and 8: STEP 1→1, STEP 2→2, LEAF = 7; then NOT 1, STEP 1→2, TRUE
 abbrev pub book : List ℕ
 book = two 2 ++ (B.entry 7 18 3 ++ (B.entry 8 42 3 ++ (B.row 5 0 1 1 0 ++ (B.row 5 0 2 2 0 ++ (B.row 1 1 0 7 0 ++
     (B.row 4 0 1 0 0 ++ (B.row 5 0 1 2 0 ++ B.row 0 0 0 0 0)))))))
 
-abbrev pub numbers : ℕ → List ℕ
-numbers w = w ∷ replicate 7 0
-
 abbrev pub carried : ℕ → ℕ → ℕ → List ℕ → Carried
-carried asked anew filled m = record { asked = asked; kept = record { memory = m; anew = anew; filled = filled } }
-
-abbrev pub asks : ℕ → ℕ → Question
-asks w x = record { states = numbers w; label = x }
+carried asked anew filled m = record { asked = asked; kept = kept m anew filled }
 
 abbrev pub slot : ℕ → ℕ → ℕ → List ℕ
 slot w x a = keyOf (asks w x) ++ numbers a
@@ -82,12 +88,19 @@ pub asks-each-end : passed late (carried 40 30 1 (slot 0 9 9 ++ replicate (slotW
 unfolding passed
 asks-each-end = refl
 
--- "wrong answers and all": a slot says that 2 makes states 3 and 5 match; "the next question is asked of the set so
--- made"
-pub wrong-answer-joined : passed late (carried 0 0 1 (slot 4 2 40 ++ replicate slotWidth 6))
-    ≡ outcome 0 0 16 (carried 2 1 2 (slot 4 2 40 ++ slot 40 1 16))
+-- "wrong answers and all", and "as it stands": a slot says that 2 makes states 3, 5 and 6 match, of which the book has
+-- no state 6; "the next question is asked of the set so made"
+pub wrong-answer-joined : passed late (carried 0 0 1 (slot 4 2 104 ++ replicate slotWidth 6))
+    ≡ outcome 0 0 16 (carried 2 1 2 (slot 4 2 104 ++ slot 104 1 16))
 unfolding passed
 wrong-answer-joined = refl
+
+-- the questions alone: what the slot says is asked next, and with no slot filled what is right
+pub questions-asked : map (λ (filled : ℕ). passQuestions (meaningOf book)
+    (kept (slot 4 2 104 ++ replicate slotWidth 6) 0 filled) late) (1 ∷ 0 ∷ [])
+    ≡ (asks 4 2 ∷ asks 104 1 ∷ []) ∷ (asks 4 2 ∷ asks 2 1 ∷ []) ∷ []
+unfolding passed passQuestions askAll
+questions-asked = refl
 
 -- "the answer given is joined to the parent's set as it stands": an attribute's answer stays when a text comes, and
 -- two children's answers

@@ -2,7 +2,7 @@
 use mathlib.Core.Path.{_≡_, refl}
 use mathlib.Core.List.{List, [], _∷_, _++_, map}
 use Prim.Native.Nat.{ℕ, _+_, _*_, _-_}
-use lib.ListN.{replicate, take}
+use lib.ListN.{replicate, take, drop}
 use Rattle.rules.specs.Memory.{questionWidth, slotWidth}
 use Rattle.lists.specs.Below.{someBelow, flags}
 use Rattle.rules.specs.Book.{
@@ -41,15 +41,19 @@ use Rattle.rules.specs.Run.{
   levels,
 }
 
--- three messages want nine answers; memory of two slots and one number
-abbrev pub lending : List ℕ → List ℕ → ℕ → ℕ → Lent
-lending b d answers workspace = record {
+-- lent with noise in it
+abbrev pub noisy : List ℕ → List ℕ → ℕ → ℕ → ℕ → Lent
+noisy b d memory answers workspace = record {
   book = b;
   day = d;
-  memory = replicate (2 * slotWidth + 1) 6;
+  memory = replicate memory 6;
   answers = replicate answers 9;
   workspace = replicate workspace 5;
 }
+
+-- three messages want nine answers; memory of two slots and one number
+abbrev pub lending : List ℕ → List ℕ → ℕ → ℕ → Lent
+lending b d answers workspace = noisy b d (2 * slotWidth + 1) answers workspace
 
 unfoldable pub refusalOf : Lent → ℕ
 unfolding runRefusal passed someBelow idOf isRow leadsWell bookShort idsFall badSizes bodiesAstray badRows
@@ -73,9 +77,24 @@ pub refusals : map refusalOf (
 unfolding refusalOf
 refusals = refl
 
+-- from no filled slots
+unfoldable pub ran : Lent → Returned
+unfolding refusalOf run passDay passTo answerRow filtersWhere flags messageBody
+ran l = run l
+
+-- refusal and counts, the whole of the answers, the workspace from number 648 on, the memory past the filled slots
+abbrev pub shown : Returned → List ℕ
+shown g = g .refusal ∷ g .asked ∷ g .anew ∷ g .filled ∷
+    (g .answers ++ drop (workspaceWidth - 2) (g .workspace) ++ drop (slotWidth * g .filled) (g .memory))
+
 -- "three 64-bit numbers for each message"; "answers past 3N, memory past the filled slots and workspace past 650 are
--- unchanged; the first 650
--- of the workspace are 0"
+-- unchanged; the first 650 of the workspace are 0"
+pub gives : shown (ran (lending book day 10 (workspaceWidth + 1)))
+    ≡ 0 ∷ 5 ∷ 3 ∷ 2 ∷ 0 ∷ 0 ∷ 1 ∷ 21 ∷ 6 ∷ 0 ∷ 0 ∷ 0 ∷ 1 ∷ 9 ∷ 0 ∷ 0 ∷ 5 ∷ 6 ∷ []
+unfolding ran
+gives = refl
+
+-- and all of it
 abbrev pub after : ℕ → ℕ → Returned
 after asked anew = record {
   refusal = 0;
@@ -87,11 +106,7 @@ after asked anew = record {
   workspace = replicate workspaceWidth 0 ++ 5 ∷ [];
 }
 
--- from no filled slots; and, the pass alone, from counts 40 and 30
-unfoldable pub ran : Lent → Returned
-unfolding refusalOf run passDay passTo answerRow filtersWhere flags messageBody
-ran l = run l
-
+-- the run; and, the pass alone, from counts 40 and 30
 pub accepted : ran (lending book day 10 (workspaceWidth + 1)) ∷ passDay (lending book day 10 (workspaceWidth + 1)) (carried 40 30 0 (replicate (2 * slotWidth + 1) 6)) ∷
     [] ≡ after 5 3 ∷ after 45 33 ∷ []
 unfolding ran

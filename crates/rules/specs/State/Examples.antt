@@ -19,9 +19,13 @@ use Rattle.rules.specs.State.{
   fits,
 }
 
--- =, ≠, <, ≤, > and ≥ of z to c
+-- =, ≠, <, ≤, > and ≥
+abbrev pub signs : List Relation
+signs = equal ∷ differs ∷ below ∷ atMost ∷ above ∷ atLeast ∷ []
+
+-- each of them of z to c
 abbrev pub six : ℤ → ℤ → List Bool
-six z c = map (λ (r : Relation). related r z c) (equal ∷ differs ∷ below ∷ atMost ∷ above ∷ atLeast ∷ [])
+six z c = map (λ (r : Relation). related r z c) signs
 
 abbrev pub Pair : Type 0
 Pair = ℤ × ℤ

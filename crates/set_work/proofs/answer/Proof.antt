@@ -1,7 +1,7 @@
 use Prim.Native.Nat.{_-_}
 use mathlib.Core.Path.{_≡_}
 use Rattle.book_plan.specs.Plan.{stateCount}
-use Rattle.set_work.specs.Loops.{Answering, answer-laws}
+use Rattle.set_work.specs.Answering.{Answering, answer-laws}
 use borrow.Author.Needs.{needs}
 use Rattle.set_work.proofs.answer.Statement.{statement}
 use Rattle.set_work.proofs.answer.Tie as tie

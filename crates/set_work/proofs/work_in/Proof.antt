@@ -1,4 +1,4 @@
-use Rattle.set_work.specs.Loops.{worked-out}
+use Rattle.set_work.specs.Answering.{worked-out}
 use borrow.Author.Needs.{needs}
 use Rattle.set_work.proofs.work_in.Statement.{statement}
 use Rattle.set_work.proofs.work_in.Tie as tie

@@ -1,4 +1,5 @@
-use Rattle.message_events.specs.Laws.{start-laws, start-room}
+use Rattle.message_starts.specs.Starts.{start-room}
+use Rattle.message_events.specs.Laws.{start-laws}
 use borrow.Author.Needs.{needs}
 use Rattle.message_events.proofs.Reader.start.Statement.{statement}
 use Rattle.message_events.proofs.Reader.start.Tie as tie

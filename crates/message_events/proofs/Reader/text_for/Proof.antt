@@ -10,18 +10,15 @@ text-for-spec =
     (λ c. search needs)  -- sub-if1
     (λ c. search needs)  -- add-if1
     (λ c. search (text-laws, needs))  -- returns
-    (λ c κs. search needs)  -- stage-of-requires
-    (λ c. search needs)  -- same-length
-    (λ c. search (text-laws, needs))  -- returns-2
     (λ c. search needs)  -- add-from
     (λ c. search needs)  -- add-hold
     (λ c. search needs)  -- sub-hold
     (λ c. search needs)  -- part-hold-start
     (λ c. search needs)  -- part-hold-end
     (λ c κs. search needs)  -- hold-requires
+    (λ c. search needs)  -- same-length
+    (λ c. search (text-laws, needs))  -- returns-2
     (λ c. search needs)  -- add-next
     (λ c. search needs)  -- add-next-2
     (λ c. search needs)  -- same-length-2
-    (λ c. search (text-laws, needs))  -- returns-3
-    (λ c. search needs)  -- same-length-3
-    (λ c. search (text-laws, needs)))  -- returns-4
+    (λ c. search (text-laws, needs)))  -- returns-3

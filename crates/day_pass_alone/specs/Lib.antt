@@ -1,0 +1,2 @@
+-- What a run that is not refused has.
+pub mod RunAccepted
