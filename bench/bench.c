@@ -1,6 +1,7 @@
 /* Times the proved engine beside others, in one process and on the same
  * messages. Before anything is timed the rows of all engines are compared.
- *   bench [SEED] */
+ *   bench [SEED]
+ *   bench counts     what is no time, seed 1: figures alone, for tests/figures.py */
 #define _POSIX_C_SOURCE 200809L
 #include <stdio.h>
 #include <stdlib.h>
@@ -203,7 +204,45 @@ static void growth(uint64_t seed) {
            "in one body.\n");
 }
 
+/* ---- Counts ---- */
+
+static void print_day(const char *what) {
+    unsigned events = 0, numbers = 0;
+    const uint8_t *at = day.bytes + 2 + 8 * day.messages, *end = day.bytes + day.length;
+    for (; at < end; events++) {
+        numbers += at[0] == 2; /* each text of a made-up day is a number */
+        at += at[0] == 2 ? 2 + (size_t)at[1] : 3;
+    }
+    printf("%s %u %zu %zu %u %u %llu\n", what, day.messages, day.length,
+           day.xml_start[day.messages], events, numbers, (unsigned long long)read_events(&day));
+}
+
+static void counts(void) {
+    make_day(&day, ESQ_MOST_MESSAGES, 1);
+    unsigned whole = day.messages;
+    make_day(&day, whole / 4, 1);
+    print_day("quarter");
+    make_day(&day, whole / 2, 1);
+    print_day("half");
+    make_day(&day, whole, 1);
+    print_day("whole");
+    for (unsigned s = 0; s < SIZES; s++) {
+        make_book(&book, filter_counts[s], 2);
+        for (unsigned c = 0; c < SLOT_COUNTS; c++) {
+            esq_total total = proved_run(&book, &day, slot_counts[c], &lent);
+            printf("run %u %zu %llu %zu\n", filter_counts[s], slot_counts[c],
+                   (unsigned long long)total.anew, total.filled);
+        }
+        printf("looks");
+        report_looks(&book, &day, &lent);
+    }
+}
+
 int main(int count, char **word) {
+    if (count > 1 && strcmp(word[1], "counts") == 0) {
+        counts();
+        return 0;
+    }
     uint64_t seed = count > 1 ? strtoull(word[1], NULL, 10) : 1;
     table(seed);
     growth(seed);

@@ -14,6 +14,14 @@ static manner how;
 static outcome by_second, by_other;
 static uint64_t cases, messages, questions;
 
+static const char *const PART_NAME[PARTS] = {"small", "random", "messages", "values", "refusals",
+                                             "pass",  "ask",    "in two",   "body",   "odd",
+                                             "twins", "damage", "limits",   "slots",  "large"};
+static enum part part;
+static uint64_t compared[PARTS];
+
+void begin(enum part p) { part = p; }
+
 /* ---- What has been covered --------------------------------------------------- */
 
 enum { NUMBERS_END = 32 };
@@ -211,6 +219,7 @@ static void note_body(const test_case *c, const outcome *o) {
 
 static void note(const test_case *c, const outcome *o) {
     cases++;
+    compared[part]++;
     if (c->call == CALL_BODY) {
         note_body(c, o);
         return;
@@ -231,6 +240,8 @@ static bool wanted(enum call call, unsigned number) {
 
 static bool wanted_row(unsigned number) { return number == 0 || (number >= 21 && number <= 29); }
 
+static bool wanted_part(int p) { return !(how.quick && p == PART_LARGE); }
+
 void print_table(void) {
     for (int call = 0; call < CALLS; call++)
         for (unsigned i = 0; i < NUMBERS_END; i++)
@@ -240,6 +251,8 @@ void print_table(void) {
         if (wanted_row(i)) printf("%8" PRIu64 "  message, refusal %u\n", rows[i], i);
     for (int i = 0; i < SITUATIONS; i++)
         printf("%8" PRIu64 "  %s\n", situations[i], SITUATION_NAME[i]);
+    for (int i = 0; i < PARTS; i++)
+        if (wanted_part(i)) printf("%8" PRIu64 "  part %s, inputs\n", compared[i], PART_NAME[i]);
 }
 
 bool all_covered(void) {
@@ -249,6 +262,7 @@ bool all_covered(void) {
             all = all && (!wanted((enum call)call, i) || refused[call][i] > 0);
     for (unsigned i = 0; i < NUMBERS_END; i++) all = all && (!wanted_row(i) || rows[i] > 0);
     for (int i = 0; i < SITUATIONS; i++) all = all && situations[i] > 0;
+    for (int i = 0; i < PARTS; i++) all = all && (!wanted_part(i) || compared[i] > 0);
     return all;
 }
 
@@ -294,7 +308,7 @@ static bool differs(const test_case *c) {
 static void disagree(const test_case *c) {
     test_case smaller = copy_case(c);
     if (fell != SIGALRM) {
-        if (!how.no_shrink) shrink(&smaller, differs);
+        if (!how.quick) shrink(&smaller, differs);
         differs(&smaller);
     }
     printf("The engines disagree.\n");

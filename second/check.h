@@ -4,11 +4,33 @@
 
 #include "case.h"
 
-/* How the program goes about a disagreement, and how long a call may take. */
+/* Quickly: no large day, and a disagreement is printed as it stands. */
 typedef struct {
-    bool no_shrink;
+    bool quick;
     unsigned seconds_a_call;
 } manner;
+
+/* The parts of a comparison. Each says that it begins, and each must compare something. */
+enum part {
+    PART_SMALL,
+    PART_RANDOM,
+    PART_MESSAGES,
+    PART_VALUES,
+    PART_REFUSALS,
+    PART_PASS,
+    PART_ASK,
+    PART_IN_TWO,
+    PART_BODY,
+    PART_ODD,
+    PART_TWINS,
+    PART_DAMAGE,
+    PART_LIMITS,
+    PART_SLOTS,
+    PART_LARGE,
+    PARTS
+};
+
+void begin(enum part p);
 
 void start_checks(manner m);
 

@@ -1,11 +1,13 @@
 #!/usr/bin/env python3
 """Shows that the comparison tells faulty engines apart.
 
+faults.py [-v] [WORD ..]     every fault, or those whose label holds one of the words; -v: how each was told apart
+
 Each fault is one edit in a copy of engine.c. The copy takes the place of the
 engine under test (through shim.c), and the quick comparison must find it. The
-engine without a fault must pass. Prints 'N faults, N told apart'; with -v, also
-how each was told apart.
+engine without a fault must pass. Prints 'N faults, N told apart'.
 """
+import concurrent.futures
 import os
 import pathlib
 import shutil
@@ -185,8 +187,8 @@ FAULTS = [
 ]
 
 
-def compile_c(source, target, flags):
-    subprocess.run([CC, "-std=c11", *flags, "-c", str(source), "-o", str(target)], check=True)
+def compile_c(source, target, *flags):
+    subprocess.run([CC, "-std=c11", "-I", str(HERE), *flags, "-c", str(source), "-o", str(target)], check=True)
 
 
 def put_fault(text, fault):
@@ -196,11 +198,14 @@ def put_fault(text, fault):
     return text.replace(old, new)
 
 
-def compare(folder, objects, engine_text):
+def compare(room, engine_text):
     """Compares the given engine; gives back whether it passed, and the first line printed."""
+    folder = pathlib.Path(tempfile.mkdtemp(dir=room))
     (folder / "engine.c").write_text(engine_text)
-    compile_c(folder / "shim.c", folder / "shim.o", ["-O1", "-w"])
+    shutil.copy(HERE / "shim.c", folder)
+    compile_c(folder / "shim.c", folder / "shim.o", "-O0", "-w")
     program = folder / "compare"
+    objects = [str(room / f"{one}.o") for one in OBJECTS]
     subprocess.run([CC, *objects, str(folder / "shim.o"), "-o", str(program)], check=True)
     done = subprocess.run([str(program), "1", "quick"], capture_output=True, text=True, errors="replace")
     if done.returncode not in (0, 1):
@@ -208,23 +213,24 @@ def compare(folder, objects, engine_text):
     return done.returncode == 0, done.stdout.split("\n", 1)[0]
 
 
+def chosen():
+    words = [word for word in sys.argv[1:] if word != "-v"]
+    return [fault for fault in FAULTS if not words or any(word in fault[0] for word in words)]
+
+
 def main():
     text = (HERE / "engine.c").read_text()
-    faulty = [(fault[0], put_fault(text, fault)) for fault in FAULTS]
-    with tempfile.TemporaryDirectory() as name:
-        folder = pathlib.Path(name)
-        objects = []
-        for one in OBJECTS:
-            compile_c(HERE / f"{one}.c", folder / f"{one}.o", ["-O1"])
-            objects.append(str(folder / f"{one}.o"))
-        for file in ("shim.c", "engine.h", "under_test.h"):
-            shutil.copy(HERE / file, folder / file)
-        passed, line = compare(folder, objects, text)
+    faulty = [(fault[0], put_fault(text, fault)) for fault in chosen()]
+    missed = []
+    with tempfile.TemporaryDirectory() as name, concurrent.futures.ThreadPoolExecutor(os.cpu_count()) as pool:
+        room = pathlib.Path(name)
+        list(pool.map(lambda one: compile_c(HERE / f"{one}.c", room / f"{one}.o", "-O1"), OBJECTS))
+        answers = pool.map(lambda engine_text: compare(room, engine_text), [text] + [changed for _, changed in faulty])
+        passed, line = next(answers)
         if not passed:
+            pool.shutdown(cancel_futures=True)
             sys.exit(f"the engine without a fault does not pass: {line}")
-        missed = []
-        for label, engine_text in faulty:
-            passed, line = compare(folder, objects, engine_text)
+        for (label, _), (passed, line) in zip(faulty, answers):
             if passed:
                 missed.append(label)
             if "-v" in sys.argv[1:]:
@@ -232,7 +238,7 @@ def main():
     for label in missed:
         print(f"not told apart: {label}")
     print(f"{len(faulty)} faults, {len(faulty) - len(missed)} told apart")
-    sys.exit(1 if missed else 0)
+    sys.exit(1 if missed or not faulty else 0)
 
 
 if __name__ == "__main__":

@@ -7,6 +7,7 @@
 /* ---- A filter's body ----------------------------------------------------------- */
 
 void part_body(void) {
+    begin(PART_BODY);
     for (unsigned n = times(4000); n > 0; n--) {
         make_book(&luck, &book);
         bool spoilt = chance(&luck, 20) && book.filters >= 3;
@@ -114,6 +115,7 @@ static void choose_asked(void) {
 }
 
 void part_ask(void) {
+    begin(PART_ASK);
     for (unsigned n = times(10000); n > 0; n--) {
         make_from_slots();
         for (unsigned i = 0; i < 5; i++) {
@@ -138,6 +140,7 @@ static void slots_of_outcome(const outcome *o) {
 }
 
 void part_pass(void) {
+    begin(PART_PASS);
     for (unsigned n = times(16000); n > 0; n--) {
         make_from_slots();
         now.call = CALL_PASS;

@@ -6,6 +6,7 @@
 /* ---- The paper's small day ----------------------------------------------------- */
 
 void part_small(void) {
+    begin(PART_SMALL);
     small_book(&book);
     small_day(&day);
     for (unsigned i = 0; i < MEMORY_COUNTS_END; i++)
@@ -78,6 +79,7 @@ static void day_in_two(void) {
 }
 
 void part_in_two(void) {
+    begin(PART_IN_TWO);
     for (unsigned i = times(4000); i > 0; i--) {
         make_book(&luck, &book);
         make_day(&luck, &day, from_to(&luck, 0, 7));
@@ -87,6 +89,7 @@ void part_in_two(void) {
 }
 
 void part_random(void) {
+    begin(PART_RANDOM);
     for (unsigned i = times(36000); i > 0; i--) {
         make_book(&luck, &book);
         make_day(&luck, &day, chance(&luck, 3) ? 0 : from_to(&luck, 1, 7));
@@ -138,6 +141,7 @@ static void check_filter_twins(void) {
 }
 
 void part_twins(void) {
+    begin(PART_TWINS);
     static message_plan plan;
     for (unsigned i = times(5000); i > 0; i--) {
         make_book(&luck, &book);
@@ -191,6 +195,7 @@ static void odd_book(void) {
 }
 
 void part_odd(void) {
+    begin(PART_ODD);
     for (unsigned i = times(2000); i > 0; i--) {
         odd_book();
         make_day(&luck, &day, from_to(&luck, 0, 6));
@@ -254,6 +259,7 @@ static void long_values(void) {
 }
 
 void part_values(void) {
+    begin(PART_VALUES);
     static const char *const text[] = {"",
                                        "-",
                                        "+5",
@@ -359,6 +365,7 @@ static void add_labels(unsigned count, unsigned labels) {
 }
 
 void part_slots(void) {
+    begin(PART_SLOTS);
     for (unsigned n = times(12); n > 0; n--)
         for (unsigned i = 0; i < MEMORY_COUNTS_END; i++) {
             make_book(&luck, &book);
@@ -423,6 +430,7 @@ static void winding_message(size_t room) {
 }
 
 void part_large(void) {
+    begin(PART_LARGE);
     fill_book(&luck, &book, 64, STATES_AT_MOST);
     new_day(&day);
     large_message(DAY_AT_MOST - 10);

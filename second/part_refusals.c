@@ -31,6 +31,7 @@ static void each_byte(bytes *b) {
 }
 
 void part_damage(void) {
+    begin(PART_DAMAGE);
     small_book(&book);
     small_day(&day);
     plans_to_case();
@@ -107,6 +108,7 @@ static void make_refused(enum call call, uint32_t set) {
 }
 
 void part_refusals(void) {
+    begin(PART_REFUSALS);
     /* A call's numbers in the order of its checks. */
     static const struct {
         enum call call;
@@ -207,6 +209,7 @@ static void probe_depth(unsigned depth, enum inside inside) {
 }
 
 void part_messages(void) {
+    begin(PART_MESSAGES);
     static const unsigned depth[] = {0, 1, 2, 3, 9, 30, 62, 63, 64};
     static message_plan plan;
     bytes m = {0};
@@ -392,6 +395,7 @@ static void limit_chain(void) {
 }
 
 void part_limits(void) {
+    begin(PART_LIMITS);
     limit_chain();
     limit_books();
     limit_messages();

@@ -5,7 +5,8 @@
  *                              too, against the files in FOLDER, against what was
  *                              worked out by hand (hand.c), and against the lines
  *                              that the paper prints for the small day, whose
- *                              book.bin and day.bin are in SMALL
+ *                              book.bin and day.bin are in SMALL. FOLDER must have
+ *                              a file for each case of hand.c, and no other
  */
 #define _DEFAULT_SOURCE
 #include "hand.h"
@@ -18,10 +19,25 @@
 
 static const char *folder;
 static unsigned number, wrong;
+static bytes names; /* of the cases' files, each between two ends of line */
 
 static void fault(const char *name, const char *what) {
     printf("%s: %s\n", name, what);
     wrong++;
+}
+
+/* The path of the next case's file. */
+static const char *next_path(const char *name) {
+    static char path[4096], file[256];
+    snprintf(file, sizeof file, "\n%02u-%s.txt\n", ++number, name);
+    add_bytes(&names, file, strlen(file));
+    snprintf(path, sizeof path, "%s/%02u-%s.txt", folder, number, name);
+    return path;
+}
+
+static void print_named_case(FILE *to, const char *name, const test_case *c) {
+    fprintf(to, "# %s\n", name);
+    print_case(to, c);
 }
 
 /* ---- Writing --------------------------------------------------------------------------- */
@@ -50,9 +66,8 @@ static void hold_against_hand(const char *name, const test_case *c, const outcom
 }
 
 static void write_one(const char *name, const test_case *c, const char *gives, const char *rows) {
-    char path[4096];
+    const char *path = next_path(name);
     outcome o = {0};
-    snprintf(path, sizeof path, "%s/%02u-%s.txt", folder, ++number, name);
     FILE *to = fopen(path, "w");
     if (to == NULL) {
         fault(path, "cannot be written");
@@ -60,8 +75,7 @@ static void write_one(const char *name, const test_case *c, const char *gives, c
     }
     call_engine(&SECOND_ENGINE, c, &o);
     hold_against_hand(name, c, &o, gives, rows);
-    fprintf(to, "# %s\n", name);
-    print_case(to, c);
+    print_named_case(to, name, c);
     print_outcome(to, c, &o);
     fclose(to);
     drop_outcome(&o);
@@ -73,11 +87,6 @@ static void hold_engine_against_hand(const engine *e, const char *name, const te
     call_engine(e, c, &o);
     hold_against_hand(name, c, &o, gives, rows);
     drop_outcome(&o);
-}
-
-static void hold_one(const char *name, const test_case *c, const char *gives, const char *rows) {
-    hold_engine_against_hand(&SECOND_ENGINE, name, c, gives, rows);
-    hold_engine_against_hand(&ENGINE_UNDER_TEST, name, c, gives, rows);
 }
 
 /* ---- Checking -------------------------------------------------------------------------- */
@@ -108,11 +117,33 @@ static void hold_against(const char *name, const char *who, const engine *e, con
     drop_outcome(&o);
 }
 
-static void check_file(const char *path) {
+/* Does the file begin with this case? */
+static bool begins_with(FILE *from, const char *name, const test_case *c) {
+    char *text = NULL;
+    size_t len = 0;
+    FILE *to = open_memstream(&text, &len);
+    print_named_case(to, name, c);
+    fclose(to);
+    char *whole = read_rest(from);
+    bool same = strncmp(whole, text, len) == 0;
+    free(text);
+    free(whole);
+    rewind(from);
+    return same;
+}
+
+static void check_file(const char *name, const test_case *wanted) {
+    const char *path = next_path(name);
     test_case c;
     FILE *from = fopen(path, "r");
-    if (from == NULL || !read_case(from, &c)) {
+    if (from == NULL) {
+        fault(path, "not there, and hand.c has a case of that name");
+        return;
+    }
+    if (!begins_with(from, name, wanted)) fault(path, "not the case that hand.c has");
+    if (!read_case(from, &c)) {
         fault(path, "cannot be read");
+        fclose(from);
         return;
     }
     char *stored = read_rest(from);
@@ -121,25 +152,30 @@ static void check_file(const char *path) {
     hold_against(path, "the engine under test", &ENGINE_UNDER_TEST, &c, stored);
     free(stored);
     drop_case(&c);
-    number++;
 }
 
-static int ends_as_text(const struct dirent *e) {
-    size_t len = strlen(e->d_name);
-    return len > 4 && strcmp(e->d_name + len - 4, ".txt") == 0;
+static void hold_one(const char *name, const test_case *c, const char *gives, const char *rows) {
+    hold_engine_against_hand(&SECOND_ENGINE, name, c, gives, rows);
+    hold_engine_against_hand(&ENGINE_UNDER_TEST, name, c, gives, rows);
+    check_file(name, c);
 }
 
-static void check_files(void) {
+/* No file that no case names. */
+static void check_no_other(void) {
     struct dirent **entry;
-    int entries = scandir(folder, &entry, ends_as_text, alphasort);
+    int entries = scandir(folder, &entry, NULL, alphasort);
+    add_byte(&names, 0);
     for (int i = 0; i < entries; i++) {
-        char path[4096];
-        snprintf(path, sizeof path, "%s/%s", folder, entry[i]->d_name);
-        check_file(path);
+        const char *file = entry[i]->d_name;
+        char line[300];
+        snprintf(line, sizeof line, "\n%s\n", file);
+        if (strcmp(file, ".") != 0 && strcmp(file, "..") != 0 &&
+            strstr((const char *)names.at, line) == NULL)
+            fault(file, "no case of hand.c names this file");
         free(entry[i]);
     }
-    if (entries <= 0)
-        fault(folder, "holds no stored results");
+    if (entries < 0)
+        fault(folder, "cannot be read");
     else
         free(entry);
 }
@@ -242,7 +278,7 @@ int main(int argc, char **argv) {
     } else {
         check_paper(argv[3]);
         each_case(hold_one);
-        check_files();
+        check_no_other();
     }
     printf("%u stored results%s, %u faults\n", number,
            write ? " written" : " and the paper's small day", wrong);

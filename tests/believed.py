@@ -146,6 +146,12 @@ def listed():
     return found
 
 
+def count(met):
+    """How much there is to believe, as the docs say it."""
+    lines = {tuple(lines) for ns in met.values() for lines in ns.values()}
+    return "%d files, %d lines" % (len(met), sum(len(block) for block in lines))
+
+
 def main():
     met = follow()
     behind = sorted("%s/specs/%s: %s" % (c, m.replace(".", "/"), ", ".join(sorted(ns))) for (c, m), ns in met.items() if "." in m)
@@ -160,12 +166,10 @@ def main():
         for c, m in sorted(listed() - doors):
             print("believed: the head of the demands' page lists %s/specs/%s.antt, which no statement reaches" % (c, m))
         sys.exit("believed: the head of the demands' page is not right")
-    lines = {tuple(lines) for ns in met.values() for lines in ns.values()}
-    count = "%d files, %d lines" % (len(met), sum(len(block) for block in lines))
     for page in CITED:
-        if count not in read(os.path.join(TOP, page)):
-            sys.exit("believed: %s does not say '%s'" % (page, count))
-    print("believed: %s, and no law among them" % count)
+        if count(met) not in read(os.path.join(TOP, page)):
+            sys.exit("believed: %s does not say '%s'" % (page, count(met)))
+    print("believed: %s, and no law among them" % count(met))
 
 
 if __name__ == "__main__":

@@ -1,10 +1,9 @@
 #!/usr/bin/env python3
 """Checks how the house is kept.
 
-- crates.txt lists, for each crate, the crates that its files name and no other.
+- crates.txt lists every crate and, for each, the crates that its files name and no other.
 - No line of a contract, and no line of code or comment beside it, has more than 120 columns.
 - Nothing is imported that the file does not name, and each need of a proof has its name behind it.
-- Each line of a must-fail edit is applied, and its first line says what it is.
 - Every link of a page leads to a file or a folder, and every heading that it names is there.
 """
 import glob
@@ -45,6 +44,8 @@ def named(crate, crates):
 
 def crates_as_listed():
     crates = listed()
+    for crate in sorted({path.split("/")[1] for path in under("crates", ".antt", ".rt")} - set(crates)):
+        yield "crates/%s is not listed in crates.txt" % crate
     for crate, words in crates.items():
         want = named(crate, crates)
         for word in sorted(want - set(words)):
@@ -93,17 +94,6 @@ def needs_named():
                 yield "%s:%d: a need without its name" % (path, number)
 
 
-def edits_applied():
-    """An edit's `old:` and `new:` are a line each, and what stands on any other line is passed over."""
-    for path in under("crates", ".edit"):
-        lines = read(path).rstrip("\n").split("\n")
-        for number, line in enumerate(lines, 1):
-            if not line.startswith(("# ", "file: ", "old: ", "new: ")):
-                yield "%s:%d: a line that is passed over" % (path, number)
-        if not lines[0].startswith("# "):
-            yield "%s: no first line that says which wrong program it is" % path
-
-
 def anchors(text):
     heads = re.findall(r"^#+ (.*)$", text, re.M)
     return {re.sub(r"[^\w\- ]", "", head.lower()).replace(" ", "-") for head in heads}
@@ -122,12 +112,12 @@ def links():
 
 def main():
     wrong = list(crates_as_listed()) + list(narrow()) + list(imports_named())
-    wrong += list(needs_named()) + list(edits_applied()) + list(links())
+    wrong += list(needs_named()) + list(links())
     for line in wrong:
         print("house: " + line)
     if wrong:
         sys.exit("house: %d faults" % len(wrong))
-    print("house: crates.txt, columns, imports, needs, edits and links are as they should be")
+    print("house: crates.txt, columns, imports, needs and links are as they should be")
 
 
 if __name__ == "__main__":

@@ -3,6 +3,8 @@
 
 noticed.py              every fault of tests/faults/*.txt
 noticed.py WORD ..      those whose name holds one of the words
+noticed.py --tree       those whose check reads the tree alone, and can run before anything is built
+noticed.py --built      the others
 
 A fault is a few lines, with an empty line behind it:
 
@@ -20,6 +22,7 @@ there, and must not write to it.
 import concurrent.futures
 import glob
 import os
+import re
 import shlex
 import shutil
 import subprocess
@@ -30,6 +33,7 @@ import threading
 TOP = os.path.dirname(os.path.dirname(os.path.abspath(__file__)))
 LIBRARY = "target/staticlib/libexported.a"
 LEFT_OUT = (".git", "target", "__pycache__")
+READS_TARGET = re.compile(r"LIBRARY|bench/run|tests/(?:assumed|commands|edits|figures|quotes)\.py")
 copies = threading.local()
 
 
@@ -128,8 +132,14 @@ def tried(fault):
     return []
 
 
+def is_chosen(fault):
+    if sys.argv[1:] in (["--tree"], ["--built"]):
+        return bool(READS_TARGET.search(only(fault, "check"))) == (sys.argv[1] == "--built")
+    return not sys.argv[1:] or any(word in only(fault, "fault") for word in sys.argv[1:])
+
+
 def main():
-    chosen = [f for f in faults() if not sys.argv[1:] or any(w in only(f, "fault") for w in sys.argv[1:])]
+    chosen = [fault for fault in faults() if is_chosen(fault)]
     checks = sorted({only(f, "check") for f in chosen})
     with concurrent.futures.ThreadPoolExecutor(os.cpu_count()) as pool:
         wrong = sum(list(pool.map(passes, checks)) + list(pool.map(tried, chosen)), [])
