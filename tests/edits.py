@@ -10,7 +10,7 @@ edits.py --try FOLDER   logs made up to show nothing: each must be called wrong
 - That error shows a fact that is false: a need that no proof was found for, or an equation whose two sides differ as far as
   they compute. It is no error of scope, type or layout, it is not in the declaration that the edit wrote into, and it is not
   that a proof has another shape than the code asks for.
-- Each edit is cited in docs/PROMISES.md, which says how many there are; as many were refused.
+- Each edit is cited in docs/PROMISES.md, which says how many there are; as many were refused. Each library has one.
 """
 import glob
 import os
@@ -141,6 +141,12 @@ def counted(names):
         yield "%s says %s, and there are %d edits" % (PAGE, said.group(0) if said else "no count", len(names))
 
 
+def without(names):
+    libraries = [path.split("/")[-3] for path in glob.glob(os.path.join(TOP, "crates/*/src/lib.rt"))]
+    for crate in sorted(set(libraries) - {edit.split("/")[0] for edit in names}):
+        yield "%s: a library with no edit" % crate
+
+
 def refused(names):
     for edit in names:
         verdict = os.path.join(TOP, LOGS, edit + ".res")
@@ -173,7 +179,7 @@ def main():
     if sys.argv[1:2] == ["--try"]:
         return try_logs(sys.argv[2])
     names = edits()
-    wrong = [line for edit in names for line in applied(edit)] + list(counted(names)) + list(refused(names))
+    wrong = [line for edit in names for line in applied(edit)] + list(counted(names)) + list(without(names)) + list(refused(names))
     for line in wrong:
         print("edits: " + line)
     if wrong or not names:
