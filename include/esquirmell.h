@@ -29,42 +29,14 @@
  * than 1,024 bytes of frames. Nothing in it calls itself. Leave 64 KiB. bench/stack.c measures it.
  *
  * Refusals. A refused call gives its number and zero counts, and everything lent
- * keeps every number that it had. These are the numbers; each call's order is
- * below them:
+ * keeps every number that it had. esquirmell_words, below, says each number in
+ * words. esquirmell_run checks 1 to 12 in this order, esquirmell_pass 1 to 12,
+ * then 14, then 19, and esquirmell_ask 1 to 7, then 18, then 14, then 19. The
+ * first that fails is the number; 0 is given where none does.
  *
- *    1  the book has fewer than 2 bytes, or ends inside its contents
- *    2  the book has more than 64 filters
- *    3  the book's ids do not rise strictly
- *    4  a filter has no state, or the book more than 512
- *    5  a body is not where it must be, or the book does not end with the last
- *    6  a state is no row of the table of kinds
- *    7  a successor is not in its body, or that of an AND, OR or NOT not higher
- *    8  the day file has fewer than 2 bytes, ends inside its table, or has more
- *       than 1,048,576 bytes
- *    9  the day file has more than 4,096 messages
- *   10  a message is not where it must be, or the file does not end with the last
- *   11  fewer than 3 answer numbers a message are lent
- *   12  fewer than 650 workspace numbers are lent
- *   14  more slots are said to be filled than are lent, or than 4,096
- *   18  the question is not nine numbers, or the answer not eight
- *   19  a count that is handed in, asked or anew, is 2^63 or more
- *
- * esquirmell_run checks 1 to 12 in this order, esquirmell_pass 1 to 12, then 14,
- * then 19, and esquirmell_ask 1 to 7, then 18, then 14, then 19. The first that
- * fails is the number; 0 is given where none does.
- *
- * A message that is refused does not refuse the run. Its row has one of these,
- * the place of the refused event's first byte in the message, and no filter:
- *
- *   21  an event's kind is not 1, 2 or 3
- *   22  an event runs past the message's body
- *   23  a start has label 0 or 32,768
- *   24  a start is not allowed there
- *   25  it would be the 65th open start
- *   26  a text is not allowed there
- *   27  a text is a whole number out of range
- *   28  an end has nothing to close, or another label
- *   29  the top element never came or is still open; the place is the body's length
+ * A message that is refused does not refuse the run. Its row has a number from 21
+ * to 29, the place of the refused event's first byte in the message (for 29 the
+ * message's length), and no filter.
  */
 #ifndef ESQUIRMELL_H
 #define ESQUIRMELL_H
@@ -108,6 +80,41 @@ typedef struct {
     size_t start;
     size_t length;
 } esq_part;
+
+/* What a refusal's number says, in words; a null pointer for any other number. It
+ * is plain C, for programs that tell a person, and no call of the proved library:
+ * nothing is promised of it. */
+static inline const char *esquirmell_words(uint64_t number) {
+    switch (number) {
+    case 1: return "the book has fewer than 2 bytes, or ends inside its contents";
+    case 2: return "the book has more than 64 filters";
+    case 3: return "an id is not higher than the one before it";
+    case 4: return "a filter has no state, or the book has more than 512";
+    case 5: return "a body is not where it must be, or the book does not end with the last";
+    case 6: return "a state is no row of the table of kinds";
+    case 7: return "a successor is not in its body, or not higher where it must be";
+    case 8:
+        return "the day file has fewer than 2 bytes, ends inside its table, or has more than "
+               "1,048,576";
+    case 9: return "the day file has more than 4,096 messages";
+    case 10: return "a message is not where it must be, or the file does not end with the last";
+    case 11: return "fewer than 3 answer numbers a message are lent";
+    case 12: return "fewer than 650 workspace numbers are lent";
+    case 14: return "more slots are said to be filled than are lent, or than 4,096";
+    case 18: return "the question is not nine numbers, or the room for its answer not eight";
+    case 19: return "a count that is handed in, asked or anew, is 2^63 or more";
+    case 21: return "an event is no start, text or end";
+    case 22: return "an event runs past the end of the message";
+    case 23: return "a start has label 0 or 32,768";
+    case 24: return "a start is not allowed here";
+    case 25: return "this would be the 65th open start";
+    case 26: return "a text is not allowed here";
+    case 27: return "a text is a whole number out of range";
+    case 28: return "an end closes nothing, or something else";
+    case 29: return "the top element never came, or is still open";
+    default: return NULL;
+    }
+}
 
 /* Below, an area and its count share a line. */
 /* clang-format off */

@@ -195,6 +195,18 @@ static void question_numbers(void) {
     }
 }
 
+/* Words for each number that a call or a message can get, and for no other. */
+static void words(void) {
+    static const uint8_t number[] = {1,  2,  3,  4,  5,  6,  7,  8,  9,  10, 11, 12,
+                                     14, 18, 19, 21, 22, 23, 24, 25, 26, 27, 28, 29};
+    size_t next = 0;
+    for (uint64_t k = 0; k < 300; k++) {
+        int has_words = next < sizeof number && k == number[next];
+        if (has_words) next++;
+        is("whether esquirmell_words has words", esquirmell_words(k) != NULL, (uint64_t)has_words);
+    }
+}
+
 static size_t read_file(const char *path, uint8_t *room) {
     FILE *file = fopen(path, "rb");
     size_t bytes = file == NULL ? 0 : fread(room, 1, FILE_ROOM, file);
@@ -217,5 +229,6 @@ int main(int count, char **word) {
     rows();
     workspace_numbers();
     question_numbers();
+    words();
     return wrong;
 }

@@ -1,7 +1,7 @@
 #!/usr/bin/env python3
 """Holds include/esquirmell.h against the library: header.c, as C99 and as C++, must find every constant and field right.
 
-header.py LIBRARY      CC and CXX name other compilers; without a C++ compiler that part is left out, with a message
+header.py LIBRARY      CC and CXX name other compilers, with flags if need be; without a C++ compiler that part is left out, with a message
 
 What no program can see, the names and the order of parameters, is held against crates/exported. second_header.c holds
 the header against second/under_test.h, which declares the same calls for the comparison. The Rust example repeats some of
@@ -11,13 +11,14 @@ import concurrent.futures
 import glob
 import os
 import re
+import shlex
 import shutil
 import subprocess
 import sys
 import tempfile
 
 TOP = os.path.dirname(os.path.dirname(os.path.abspath(__file__)))
-CC, CXX = os.environ.get("CC", "gcc"), os.environ.get("CXX", "g++")
+CC, CXX = (shlex.split(os.environ.get(name) or usual) for name, usual in (("CC", "gcc"), ("CXX", "g++")))
 STRICT = ["-pedantic-errors", "-Wall", "-Wextra", "-Werror", "-Iinclude"]
 RESULTS = {"Total": "esq_total", "Answered": "esq_reply", "Part": "esq_part"}
 TYPES = {
@@ -94,18 +95,18 @@ def called(words):
 
 def built_and_run(library, folder, compiler, standard, *language):
     program = os.path.join(folder, standard)
-    build = [compiler, "-std=" + standard, *language, "tests/header.c", *STRICT, "-x", "none", library, "-o", program]
+    build = [*compiler, "-std=" + standard, *language, "tests/header.c", *STRICT, "-x", "none", library, "-o", program]
     return called(build) or called([program, "small/book.bin", "small/day.bin"])
 
 
 def compiled(library):
     with tempfile.TemporaryDirectory() as folder, concurrent.futures.ThreadPoolExecutor(os.cpu_count()) as pool:
         jobs = [pool.submit(built_and_run, library, folder, CC, "c99")]
-        if shutil.which(CXX):
+        if shutil.which(CXX[0]):
             jobs.append(pool.submit(built_and_run, library, folder, CXX, "c++11", "-x", "c++"))
         else:
-            print("header: %s is not here, so the header was not compiled as C++" % CXX)
-        agree = [CC, "-std=c11", "-fsyntax-only", *STRICT, "-Isecond", "tests/second_header.c"]
+            print("header: %s is not here, so the header was not compiled as C++" % CXX[0])
+        agree = [*CC, "-std=c11", "-fsyntax-only", *STRICT, "-Isecond", "tests/second_header.c"]
         jobs.append(pool.submit(called, agree))
         return sum([job.result() for job in jobs], [])
 
