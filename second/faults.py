@@ -10,13 +10,14 @@ engine without a fault must pass. Prints 'N faults, N told apart'.
 import concurrent.futures
 import os
 import pathlib
+import shlex
 import shutil
 import subprocess
 import sys
 import tempfile
 
 HERE = pathlib.Path(__file__).resolve().parent
-CC = os.environ.get("CC", "gcc")
+CC = shlex.split(os.environ.get("CC") or "gcc")
 OBJECTS = ["engine", "case", "make", "shrink", "check", "parts", "part_inputs",
            "part_refusals", "part_calls", "compare"]
 
@@ -188,7 +189,7 @@ FAULTS = [
 
 
 def compile_c(source, target, *flags):
-    subprocess.run([CC, "-std=c11", "-I", str(HERE), *flags, "-c", str(source), "-o", str(target)], check=True)
+    subprocess.run([*CC, "-std=c11", "-I", str(HERE), *flags, "-c", str(source), "-o", str(target)], check=True)
 
 
 def put_fault(text, fault):
@@ -206,7 +207,7 @@ def compare(room, engine_text):
     compile_c(folder / "shim.c", folder / "shim.o", "-O0", "-w")
     program = folder / "compare"
     objects = [str(room / f"{one}.o") for one in OBJECTS]
-    subprocess.run([CC, *objects, str(folder / "shim.o"), "-o", str(program)], check=True)
+    subprocess.run([*CC, *objects, str(folder / "shim.o"), "-o", str(program)], check=True)
     done = subprocess.run([str(program), "1", "quick"], capture_output=True, text=True, errors="replace")
     if done.returncode not in (0, 1):
         sys.exit(f"the comparison ended with {done.returncode}: {done.stderr}")

@@ -1,7 +1,8 @@
 #!/usr/bin/env python3
 """Checks the commands that the pages show in blocks: each is run here, or by ./test, or has a reason why not.
 
-Here they are run in a folder of their own, with a copy of what they need. `commands.py -v` says what becomes of each.
+Here they are run as they are printed, in a folder of their own with a copy of what they need, page by page and in their order. The
+lines below a command that stands after `$ ` are what it must print. `commands.py -v` says which are not run, and why.
 """
 import os
 import re
@@ -13,55 +14,72 @@ import tempfile
 from house import TOP, read
 from library import Run
 from pages import PAGES, page
-from quotes import printed_lines
+from quotes import differ, printed_lines
 from small_day import SMALL_BOOK, SMALL_DAY
 
-COMMAND = re.compile(r"(?:\./|rt |gcc |python3 |bench/|second/|tests/|compare |store )")
-NEEDED = ["run", "crates.txt", "tool", "include", "examples", "small"]
-SMALL = ["small/book.bin", "small/day.bin"]
+COMMAND = re.compile(r"(?:\$ )?(?:\./|rt |gcc |rustc |python3 |printf |cmp |bench/|second/|tests/|compare |store )")
+NEEDED = ["esquirmell", "run", "VERSION", "crates.txt", "tool", "include", "examples", "small", "docs"]
 PROVER = "it takes the prover, and is for one who changes a crate; ./test does the same for all crates by rt ci"
+SAYS = re.compile(r"On standard error it says each refusal in words: `(.*?)`")
 
 
-def done(room, words, status=0):
-    """What a command prints: standard output and standard error."""
-    ended = subprocess.run(words, cwd=room, capture_output=True, text=True)
-    if ended.returncode != status:
-        raise ValueError("'%s' ended with %d: %s" % (" ".join(words), ended.returncode, ended.stderr))
-    return ended.stdout, ended.stderr
+def ran(room, command):
+    """Status, standard output and standard error of a line of a page, as a shell runs it."""
+    ended = subprocess.run(["bash", "-c", command], cwd=room, capture_output=True, text=True)
+    return ended.returncode, ended.stdout, ended.stderr
 
 
 def lines(slots):
     return "\n".join(printed_lines(Run(SMALL_BOOK, SMALL_DAY, 17 * slots))) + "\n"
 
 
-def runs_small(room, command):
-    out, err = done(room, ["./run"])
-    refusal = re.search(r"On standard error it says each refusal in words: `(.*?)`", page("README.md").text).group(1)
-    if out != lines(64):
-        yield "it prints\n%s" % out
-    if err.rstrip("\n").split("\n")[-1] != refusal:
-        yield "on standard error it says '%s', and the page '%s'" % (err.strip(), refusal)
+def works(room, command):
+    status, _, err = ran(room, command)
+    if status != 0:
+        yield "it ended with %d: %s" % (status, err)
 
 
-def runs_own(room, command):
-    if done(room, ["./run", *SMALL, "5"])[0] != lines(5):
-        yield "with 5 slots it does not print what the library gives"
+def prints(slots):
+    """It prints the small day's lines with so many slots."""
+    def check(room, command):
+        status, out, err = ran(room, command)
+        if (status, out) != (0, lines(slots)):
+            yield "it ended with %d and does not print the small day's lines: %s%s" % (status, out, err)
+    return check
 
 
-def links(room, command):
-    """Compiles a program as the page says; a name of no file is the small example."""
-    words = command.split()
-    source = [word for word in words if word.endswith(".c")][0]
-    if not os.path.exists(os.path.join(room, source)):
-        shutil.copy(os.path.join(TOP, "examples/small.c"), os.path.join(room, source))
-    done(room, words)
-    if not os.access(os.path.join(room, words[-1]), os.X_OK):
-        yield "there is no program %s" % words[-1]
+def says(slots):
+    """It says the small day's refusal in README.md's words, too."""
+    def check(room, command):
+        yield from prints(slots)(room, command)
+        refusal, said = SAYS.search(page("README.md").text).group(1), ran(room, command)[2]
+        if said != refusal + "\n":
+            yield "on standard error it says '%s', and the page '%s'" % (said.rstrip("\n"), refusal)
+    return check
 
 
-def prints(room, command):
-    if done(room, command.split())[0] != lines(64):
-        yield "it does not print the small day's lines"
+def gives(output):
+    """It prints what stands below it on the page: standard output, standard error, and the status if that is not 0."""
+    def check(room, command):
+        status, out, err = ran(room, command)
+        there = (out + err).rstrip("\n").split("\n") + ["(exit status %d)" % status] * (status != 0)
+        yield from differ("below it", output, there)
+    return check
+
+
+def with_rust(check):
+    def perhaps(room, command):
+        if shutil.which("rustc"):
+            yield from check(room, command)
+        else:
+            print("commands: rustc is not here, so '%s' was not run" % command)
+    return perhaps
+
+
+def example(room, command):
+    """A compiler's line with the small example for a program of the reader's own."""
+    shutil.copy(os.path.join(TOP, "examples/small.c"), os.path.join(room, "program.c"))
+    yield from works(room, command)
 
 
 def in_gate(words):
@@ -71,19 +89,21 @@ def in_gate(words):
     return check
 
 
-# What becomes of each command: a function that runs it, the words of ./test that do, or the reason why it is not run.
+# What becomes of a command that is not simply run: a function that runs it and looks, the words of ./test that do, or the reason why not.
+# On README.md and below docs each command is run as it is printed, but for ./test and bench/run.
 COMMANDS = {
     "README.md": {
-        "./run": runs_small,
-        "./run BOOK DAY [SLOTS]": runs_own,
+        "./run": says(64),
+        "./run small/book.bin small/day.bin 5": says(5),
         "./test": "it is what runs this",
         "rt staticlib exported": in_gate("rt staticlib exported"),
-        "gcc -Iinclude examples/small.c target/staticlib/libexported.a -o small_day": links,
-        "./small_day small/book.bin small/day.bin": prints,
+        "./small_day small/book.bin small/day.bin": prints(64),
+        "rustc --edition 2021 -O examples/rust/small.rs -C link-arg=target/staticlib/libexported.a -o small_rust": with_rust(works),
+        "./small_rust small/book.bin small/day.bin": with_rust(prints(64)),
     },
     "include/esquirmell.h": {
         "rt staticlib exported": in_gate("rt staticlib exported"),
-        "gcc -Iinclude program.c target/staticlib/libexported.a -o program": links,
+        "gcc -Iinclude program.c target/staticlib/libexported.a -o program": example,
     },
     "CONTRIBUTING.md": {
         "rt dev CRATE": PROVER,
@@ -107,47 +127,80 @@ COMMANDS = {
 }
 
 
-def shown(name):
-    """The commands in a page's blocks: fences, lines that are set in by four blanks, and those of a comment in C."""
+def in_blocks(name):
+    """The lines of a page's blocks: of fences, set in by four blanks, and of a comment in C; None where a block ends."""
     fenced = False
     for line in page(name).lines:
         fenced = fenced != line.startswith("```")
         inside = line if fenced else re.sub(r"^(?: \* {5}| {4})(?=\S)", "\0", line)
-        if (fenced or inside.startswith("\0")) and COMMAND.match(inside.lstrip("\0")):
-            yield re.split(r"\s{2,}|\s+#", inside.lstrip("\0").strip())[0]
+        if line.startswith("```") or not (fenced or inside.startswith("\0")):
+            yield None
+        else:
+            yield inside.lstrip("\0").rstrip()
+
+
+def shown(name):
+    """The commands of a page, each with the lines that stand below it as its output, or None: only one after `$ ` has any."""
+    found, output = [], None
+    for line in in_blocks(name):
+        if line is not None and COMMAND.match(line):
+            output = [] if line.startswith("$ ") else None
+            found.append((line[2:] if line.startswith("$ ") else re.split(r"\s{2,}|\s+#", line)[0], output))
+        elif line is None:
+            output = None
+        elif output is not None:
+            output.append(line)
+    return found
+
+
+def as_printed(name):
+    return name == "README.md" or name.startswith("docs/")
+
+
+def wrong_on(room, name):
+    """The commands of one page, in their order."""
+    for command, output in shown(name):
+        usual = gives(output) if output is not None else works if as_printed(name) else None
+        how = COMMANDS.get(name, {}).get(command, usual)
+        if how is None:
+            yield "'%s' is not in the list of tests/commands.py" % command
+        elif callable(how):
+            yield from ("'%s': %s" % (command, what) for what in how(room, command))
+        elif as_printed(name) and not re.match(r"\./test$|bench/run", command):
+            yield "'%s' is not run, and each command of this page must be" % command
 
 
 def wrong(room):
     for name in PAGES:
-        known, there = COMMANDS.get(name, {}), list(shown(name))
-        for command in [command for command in there if command not in known]:
-            yield "%s: '%s' is not in the list of tests/commands.py" % (name, command)
-        for command in [command for command in known if command not in there]:
+        there = [command for command, _ in shown(name)]
+        for command in [command for command in COMMANDS.get(name, {}) if command not in there]:
             yield "%s: '%s' is in the list of tests/commands.py, and not on the page" % (name, command)
-        for command in [command for command in known if command in there and callable(known[command])]:
-            try:
-                yield from ("%s: '%s': %s" % (name, command, what) for what in known[command](room, command))
-            except (ValueError, OSError) as error:
-                yield "%s: %s" % (name, error)
+        yield from ("%s: %s" % (name, what) for what in wrong_on(room, name))
+
+
+def prepared(room):
+    """A copy of what the commands need, with the library, and the command built."""
+    for name in NEEDED:
+        copy = shutil.copytree if os.path.isdir(os.path.join(TOP, name)) else shutil.copy2
+        copy(os.path.join(TOP, name), os.path.join(room, name))
+    os.makedirs(os.path.join(room, "crates"))
+    os.makedirs(os.path.join(room, "target/staticlib"))
+    shutil.copy(os.path.join(TOP, "target/staticlib/libexported.a"), os.path.join(room, "target/staticlib"))
+    ran(room, "./run")
 
 
 def main():
     with tempfile.TemporaryDirectory() as room:
-        for name in NEEDED:
-            copy = shutil.copytree if os.path.isdir(os.path.join(TOP, name)) else shutil.copy2
-            copy(os.path.join(TOP, name), os.path.join(room, name))
-        os.makedirs(os.path.join(room, "crates"))
-        os.makedirs(os.path.join(room, "target/staticlib"))
-        shutil.copy(os.path.join(TOP, "target/staticlib/libexported.a"), os.path.join(room, "target/staticlib"))
+        prepared(room)
         faults = list(wrong(room))
     for line in faults:
         print("commands: " + line)
     if faults:
         sys.exit("commands: %d faults" % len(faults))
-    every = [(name, command, how) for name, known in COMMANDS.items() for command, how in known.items()]
+    every = [(name, command, COMMANDS.get(name, {}).get(command)) for name in PAGES for command, _ in shown(name)]
     for name, command, how in [row for row in every if "-v" in sys.argv[1:] and isinstance(row[2], str)]:
         print("commands: %s: '%s' is not run: %s" % (name, command, how))
-    count = sum(callable(how) for _, _, how in every)
+    count = sum(not isinstance(how, str) for _, _, how in every)
     print("commands: %d on the pages, %d of them run here or by ./test" % (len(every), count))
 
 

@@ -3,7 +3,8 @@
 
 figures.py               the words of tests/figures.txt, each on its page
 figures.py --bench       its words with the benchmark's counts, which bench/run --counts gives
-figures.py --uncovered   all of these; prints each line of a page with a figure that neither they nor tests/quotes.py check
+figures.py --uncovered   all of these; prints each line of a page with a figure that neither they nor tests/quotes.py nor
+                         tests/cookbook.py check
 
 tests/figures.txt has words that a page must say. A figure stands there in braces, as an expression: {mostFilters + 1} is
 one more than the definition has. Names in it are the numbers of the definitions (an `abbrev` of a file directly in specs),
@@ -14,6 +15,7 @@ matter.
 import re
 import sys
 
+import cookbook
 import quotes
 from house import read
 from pages import PAGES, page
@@ -106,6 +108,7 @@ def main():
         print("figures: %d lines of the table are words of their pages" % len(list(rows(how == ["--bench"]))))
         return
     quotes.wrong()
+    cookbook.every()
     for name in PAGES:
         for number, figures, line in page(name).uncovered():
             print("%s:%d: [%s] %s" % (name, number, " ".join(figures), line))

@@ -5,6 +5,7 @@
 - No line of a contract, and no line of code or comment beside it, has more than 120 columns.
 - Nothing is imported that the file does not name, and each need of a proof has its name behind it.
 - Every link of a page leads to a file or a folder, and every heading that it names is there.
+- Each row of a table has as many cells as its head. A `|` between backticks ends a cell too, as it does where pages are shown.
 """
 import glob
 import os
@@ -99,8 +100,12 @@ def anchors(text):
     return {re.sub(r"[^\w\- ]", "", head.lower()).replace(" ", "-") for head in heads}
 
 
+def pages():
+    return [path for path in under("", ".md") if not path.startswith("target")]
+
+
 def links():
-    for page in [p for p in under("", ".md") if not p.startswith("target")]:
+    for page in pages():
         for link in re.findall(r"\]\(([^)\s]+)\)", re.sub(r"```.*?```", "", read(page), flags=re.S)):
             path, _, head = link.partition("#")
             there = os.path.normpath(os.path.join(os.path.dirname(page), path)) if path else page
@@ -110,14 +115,35 @@ def links():
                 yield "%s: %s has no heading %s" % (page, there, head)
 
 
+def cells(row):
+    return len(re.split(r"(?<!\\)\|", row.strip())) - 2
+
+
+def table_rows(page):
+    """Each line of a page's tables, with the cells that its table's head has; lines of a fence are none."""
+    fenced, wanted = False, None
+    for number, line in enumerate(read(page).split("\n"), 1):
+        fenced = fenced != line.startswith("```")
+        wanted = (wanted or cells(line)) if line.startswith("|") and not fenced else None
+        if wanted:
+            yield number, line, wanted
+
+
+def tables():
+    for page in pages():
+        for number, line, wanted in table_rows(page):
+            if cells(line) != wanted or not line.rstrip().endswith("|"):
+                yield "%s:%d: a row of %d cells in a table of %d" % (page, number, cells(line), wanted)
+
+
 def main():
     wrong = list(crates_as_listed()) + list(narrow()) + list(imports_named())
-    wrong += list(needs_named()) + list(links())
+    wrong += list(needs_named()) + list(links()) + list(tables())
     for line in wrong:
         print("house: " + line)
     if wrong:
         sys.exit("house: %d faults" % len(wrong))
-    print("house: crates.txt, columns, imports, needs and links are as they should be")
+    print("house: crates.txt, columns, imports, needs, links and tables are as they should be")
 
 
 if __name__ == "__main__":

@@ -1,30 +1,27 @@
 """The exported library, called from Python: target/staticlib/libexported.a, linked into a shared one for the while."""
 import ctypes
 import os
+import shlex
 import subprocess
 import tempfile
 
 TOP = os.path.dirname(os.path.dirname(os.path.abspath(__file__)))
 ARCHIVE = os.path.join(TOP, "target/staticlib/libexported.a")
 SIZE = ctypes.c_size_t
+CC = shlex.split(os.environ.get("CC") or "gcc")  # another compiler, with flags if need be
 
 
 class Total(ctypes.Structure):
     _fields_ = [("refusal", ctypes.c_uint64), ("asked", ctypes.c_uint64), ("anew", ctypes.c_uint64), ("filled", SIZE)]
 
 
-class Part(ctypes.Structure):
-    _fields_ = [("start", SIZE), ("length", SIZE)]
-
-
 def load():
     with tempfile.TemporaryDirectory() as room:
         shared = os.path.join(room, "library.so")
         words = ["-shared", "-o", shared, "-Wl,--whole-archive", ARCHIVE, "-Wl,--no-whole-archive"]
-        subprocess.run([os.environ.get("CC", "gcc"), *words], check=True)
+        subprocess.run([*CC, *words], check=True)
         library = ctypes.CDLL(shared)
     library.esquirmell_run.restype = Total
-    library.esquirmell_filter_body.restype = Part
     return library
 
 
@@ -46,9 +43,3 @@ class Run:
     def row(self, message):
         """The row of a message, counted from 1: refusal, place, filters."""
         return self.answers[3 * message - 3:3 * message]
-
-
-def body_of(book, ident):
-    """Where a filter's body stands: start and length."""
-    part = LIBRARY.esquirmell_filter_body(book, SIZE(len(book)), ctypes.c_uint32(ident))
-    return part.start, part.length

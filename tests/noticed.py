@@ -106,7 +106,7 @@ def set_right(before):
 
 def run(tree, command):
     words = [LIBRARY if word == "LIBRARY" else word for word in shlex.split(command)]
-    done = subprocess.run(words, cwd=tree, capture_output=True, text=True, errors="replace")
+    done = subprocess.run(words, cwd=tree, capture_output=True, text=True, errors="replace", env={**os.environ, "OBJECTS": OBJECTS})
     return done.returncode, done.stdout + done.stderr
 
 
@@ -152,4 +152,6 @@ def main():
 
 if __name__ == "__main__":
     with tempfile.TemporaryDirectory() as ROOM:
+        OBJECTS = os.path.join(ROOM, "objects")  # where tool/check leaves what a fault does not change
+        os.mkdir(OBJECTS)
         main()

@@ -6,8 +6,8 @@ import re
 
 from house import TOP, read
 
-PAGES = ["README.md", "CONTRIBUTING.md", "second/README.md", "include/esquirmell.h", "docs/ARCHITECTURE.md",
-         "docs/DECISIONS.md", "docs/FORMATS.md", "docs/HELP.md", "docs/PERFORMANCE.md", "docs/PROMISES.md"]
+PAGES = ["README.md", "CONTRIBUTING.md", "second/README.md", "include/esquirmell.h", "docs/ARCHITECTURE.md", "docs/COMMAND.md",
+         "docs/DECISIONS.md", "docs/FORMATS.md", "docs/HELP.md", "docs/PERFORMANCE.md", "docs/PROMISES.md", "docs/RULES.md"]
 FIGURE = re.compile(r"(?<![\w.,^])\d[\d,]*(?:\.\d+)?(?![\w^]|-bit)")
 pages = {}
 
@@ -83,6 +83,12 @@ def texts():
     """Every page that is written for the tree as it is; CHANGELOG.md has old names."""
     found = [path for shape in ("*.md", "*/*.md") for path in glob.glob(os.path.join(TOP, shape))]
     return sorted({os.path.relpath(path, TOP) for path in found} - {"CHANGELOG.md"})
+
+
+def refusal_words():
+    """The words of each refusal, from the one table that has them, in its order."""
+    cases = re.findall(r'case (\d+):\s*return ((?:"[^"]*"\s*)+);', read("include/esquirmell.h"))
+    return {int(number): "".join(re.findall(r'"([^"]*)"', words)) for number, words in cases}
 
 
 def page(name):

@@ -27,15 +27,25 @@ from pages import texts
 PAGE = "docs/PROMISES.md"
 OWN_WORDS = {"CRATE.File.name", "CRATE::name", "CRATE/label.edit", "crates/CRATE/specs", "must-fail", "requires", "pub"}
 SOURCE = ["crates/**/*.antt", "crates/**/*.rt", "second/*.[ch]", "bench/*.[ch]", "tool/*.c", "include/*.h", "examples/**/*.[cr]*",
-          "tests/*.py", "second/*.py", "test", "run", "*/check", "bench/run", "crates.txt"]
+          "tests/*.py", "second/*.py", "test", "run", "esquirmell", "tool/*.[ht]*", "*/check", "bench/run", "crates.txt"]
 NOTATION = {
-    "README.md": {"message 5, byte 9, 24: a start is not allowed here"},  # tests/commands.py holds it against what ./run prints
+    "README.md": {"small/day.bin: message 5, byte 9 (byte 168 of the file), 24: a start is not allowed here"},  # held by tests/commands.py
     "CONTRIBUTING.md": {"was x", "left x", "# true: TEXT"},
     "second/README.md": {'LINK="-lpthread -ldl" second/check lib.a'},
+    "docs/COMMAND.md": {"0 TRUE", "0 LEAF > 5", "0 AND 1 2", "0 OR 1 2", "0 NOT 1", "0 STEP 3 -> 1", "start 1", 'text "6"', "end 1",
+                        "bytes 01 ff", r"\xHH", "STEP service -> 1", "start @day", "man -l docs/esquirmell.1"},
     "docs/ARCHITECTURE.md": {"day_tally"},  # a crate of a later request
     "docs/DECISIONS.md": {"endian"},  # a name that was not taken
-    "docs/HELP.md": {"λ r. ..", "f x y", "f (g x) y", "was x", "left x", "now x", "lent ..", "returned ..", "a ≡ b", "A × B",
+    "docs/HELP.md": {"rt doc", "λ r. ..", "f x y", "f (g x) y", "was x", "left x", "now x", "lent ..", "returned ..", "a ≡ b", "A × B",
                      "A → B", "A ↔ B", "A → ⊥", "(n : ℕ) → A", "x .field", "a ∷ s", "s ++ t"},
+    "docs/RULES.md": {"OR 1 2",  # what follows is XPath
+                      "//late", "//@day", "/service[call]", "/service[@day]/call/late", "/service/@day = 6", "/service[@day = 6]",
+                      "not(/service/call)", "/service[not(call)]", "/service/call/late > 5 or not(/service/@day)",
+                      "/service[@day = 6 and not(call/late > 5)]", "/service[.//late > 5]", "/service//late > 5",
+                      "/service/call[late > 5 and late < 5]", "/service[call/late > 5 and call/late < 5]",
+                      "not(/service/call/late > 5)", "not(//call/late > 5)", "/service/call/late > 5", "/service[@day=6 and call]",
+                      "/service/call/late <= 5", "/service/call/late != 7",
+                      "not(/service/call/late = 7)", "late != 7", "/service/call = 7"},
 }
 
 

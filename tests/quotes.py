@@ -1,11 +1,12 @@
 #!/usr/bin/env python3
 """Checks what the pages quote: bytes, printed lines, contracts, definitions, and tables that the library can be asked for.
 
-- README.md's printed lines are the day program's; docs/FORMATS.md's bytes of the small files are the files', with the
-  words beside them.
-- Its tables of slots, counts, answers, values and kinds are what the library gives; each side of a limit gets from it the
-  number that the table says.
-- Its tables of refusals, and the header's list, have the numbers of the definitions in their order.
+- README.md's printed lines are the day program's.
+- docs/FORMATS.md's tables of slots, counts, answers, values and kinds are what the library gives; each side of a limit gets
+  from it the number that the table says.
+- Its tables of refusals, those of docs/RULES.md and the words of the header have the numbers of the definitions in their
+  order; all say each number in the same words, docs/FORMATS.md perhaps with more behind them.
+- docs/RULES.md draws the tree of the small day's first message, and has the table of counts, too.
 - The contracts and definitions that docs/HELP.md quotes stand in the source.
 - docs/ARCHITECTURE.md has each crate of crates.txt in its drawing and in its table, and no other.
 - The times in docs/PERFORMANCE.md fit each other.
@@ -15,7 +16,7 @@ import sys
 
 from house import listed, read, under
 from library import Run
-from pages import page
+from pages import page, refusal_words
 from small_day import LEAF, NOT, SMALL_BOOK, SMALL_DAY, STEP, TRUE, book, day, end, node, start, state, text, u16, u32
 
 NAMES = {0: "any element", 1: "service", 2: "call", 3: "late", 32772: "@day"}
@@ -48,7 +49,7 @@ def cells(rows):
     return [" | ".join(map(str, row)) for row in rows]
 
 
-# ---- The small files, byte by byte
+# ---- The small day as a tree
 
 def state_words(data):
     kind, x, y = KINDS[data[0]], two(data, 2), two(data, 4)
@@ -59,52 +60,45 @@ def state_words(data):
     return " ".join([kind] + {"TRUE": [], "NOT": [str(x)]}.get(kind, [str(x), str(y)]))
 
 
-def book_lines():
-    data, filters, before = SMALL_BOOK, two(SMALL_BOOK, 0), 0
-    yield "   0  %-23s  F = %d filters" % (hexes(data[:2]), filters)
-    entries = [(at, four(data, at), two(data, at + 4), two(data, at + 6)) for at in range(2, 2 + 8 * filters, 8)]
-    for k, (at, *figures) in enumerate(entries):
-        yield "%4d  %s  entry %d: id %d, body at %d, %d states" % (at, hexes(data[at:at + 8]), k, *figures)
-    for _, ident, body, count in entries:
-        yield "      -- body of id %d: states %d to %d of the book" % (ident, before, before + count - 1)
-        before += count
-        for k, at in enumerate(range(body, body + 8 * count, 8)):
-            yield "%4d  %s  state %d: %s" % (at, hexes(data[at:at + 8]), k, state_words(data[at:at + 8]))
-
-
-def event_words(event):
-    if event[0] == 2:
-        return 'text of %d: "%s"' % (event[1], event[2:].decode())
-    label = two(event, 1)
-    return "%s %d (%s)" % ("start" if event[0] == 1 else "end", label, NAMES[label])
-
-
-def message_lines(number, body, at):
-    yield "      -- message %d, place 0 is byte %d of the file" % (number, at)
+def events(body):
+    """The events of a message that is not cut short: place, how many starts are open around it, and its bytes."""
     place, depth = 0, 0
     while place < len(body):
         size = 2 + body[place + 1] if body[place] == 2 else 3
         event = body[place:place + size]
         depth -= event[0] == 3
-        yield "%4d  place %-3d %s     %s%s" % (at + place, place, hexes(event), "  " * depth, event_words(event))
+        yield place, depth, event
         depth += event[0] == 1
         place += size
 
 
-def day_lines():
-    data, messages = SMALL_DAY, two(SMALL_DAY, 0)
-    yield "   0  %-23s  N = %d messages" % (hexes(data[:2]), messages)
-    entries = [(at, four(data, at), four(data, at + 4)) for at in range(2, 2 + 8 * messages, 8)]
-    for k, (at, *figures) in enumerate(entries, 1):
-        yield "%4d  %s  message %d: starts at %d, %d bytes" % (at, hexes(data[at:at + 8]), k, *figures)
-    for k, (_, at, size) in enumerate(entries, 1):
-        yield from message_lines(k, data[at:at + size], at)
+def message_body(number):
+    """The bytes of a message of the small day, counted from 1."""
+    at = four(SMALL_DAY, 8 * number - 6)
+    return SMALL_DAY[at:at + four(SMALL_DAY, 8 * number - 2)]
 
 
-def small_files():
-    formats = page("docs/FORMATS.md")
-    yield from differ("docs/FORMATS.md, small/book.bin", formats.fence("### The small book"), list(book_lines()))
-    yield from differ("docs/FORMATS.md, small/day.bin", formats.fence("### The small day"), list(day_lines()))
+def drawing_lines(body):
+    """The tree of a message: a letter for each node, its name and its text."""
+    nodes, later, lines = [[0, "root"]], set(), []
+    for _, depth, event in events(body):
+        if event[0] == 1:
+            nodes.append([depth + 1, NAMES[two(event, 1)]])
+        elif event[0] == 2:
+            holder = [node_ for node_ in nodes if node_[0] == depth][-1]
+            holder[1] += ' "%s"' % event[2:].decode()
+    for k, (depth, words) in reversed(list(enumerate(nodes))):
+        later = {other for other in later if other <= depth}  # depths at which a brother follows, of it or of a node above it
+        above = "".join("│   " if other in later else "    " for other in range(1, depth))
+        branch = above + ("├── " if depth in later else "└── ") if depth else ""
+        lines.append("%s   %s%s" % (chr(ord("A") + k), branch, words))
+        later.add(depth)
+    return lines[::-1]
+
+
+def drawing():
+    drawn = page("docs/RULES.md").fence("with a letter before each node")
+    yield from differ("docs/RULES.md, the drawing", drawn, drawing_lines(message_body(1)))
 
 
 # ---- What the small day gives
@@ -162,9 +156,9 @@ def small_day_gives():
     slots = formats.table("| slot | asked set |", covers=True)
     yield from differ("docs/FORMATS.md, the slots", cells(slots), cells(slot_rows(run)))
     runs = [(slots, Run(SMALL_BOOK, SMALL_DAY, 17 * slots)) for slots in (64, 5, 2, 0)]
-    counts = formats.table("| slots lent | asked |", covers=True)
     should = cells((lent, run_.asked, run_.anew, run_.filled) for lent, run_ in runs)
-    yield from differ("docs/FORMATS.md, the counts", cells(counts), should)
+    for name in ("docs/FORMATS.md", "docs/RULES.md"):
+        yield from differ(name + ", the counts", cells(page(name).table("| slots lent | asked |", covers=True)), should)
     yield from differ("docs/FORMATS.md, the answers", formats.fence("fifteen answers"), list(answer_lines(run)))
 
 
@@ -310,17 +304,34 @@ def orders():
             "message": numbers_of("MessageTable.antt", "messageRows")}
 
 
+# Each list of refusals, and words before its table in docs/FORMATS.md and in docs/RULES.md.
+REFUSALS = [("run", "## Refusals of a whole run", "### The whole run"),
+            ("question", "its two counts. It gives", "Two calls beside the run"),
+            ("message", "## Refusals of one message", "### One message")]
+
+
 def refusals():
-    formats, header, order = page("docs/FORMATS.md"), page("include/esquirmell.h"), orders()
-    for words, name in (("## Refusals of a whole run", "run"), ("its two counts. It gives", "question"),
-                        ("## Refusals of one message", "message")):
-        rows = formats.numbered_table(words)
-        formats.cover_first(number for number, _ in rows)
-        yield from differ("docs/FORMATS.md, the refusals of the %s" % name, [row[0] for _, row in rows], order[name])
-    said = {number: re.match(r" \* {3,4}(\d+)  \S", line) for number, line in enumerate(header.lines, 1)}
-    header.cover_first(number for number, found in said.items() if found)
+    formats, rules, order = page("docs/FORMATS.md"), page("docs/RULES.md"), orders()
+    for name, *before in REFUSALS:
+        tables = [(there, there.numbered_table(words)) for there, words in zip((formats, rules), before)]
+        for there, rows in tables:
+            there.cover_first(number for number, _ in rows)
+            yield from differ("%s, the refusals of the %s" % (there.name, name), [row[0] for _, row in rows], order[name])
+        for (_, said), (_, row) in zip(*(rows for _, rows in tables)):
+            if said[-1] != row[-1] and not said[-1].startswith((row[-1] + ": ", row[-1] + "; ")):
+                yield "docs/FORMATS.md, refusal %s: it says '%s', and docs/RULES.md '%s'" % (said[0], said[-1], row[-1])
+
+
+def header_refusals():
+    """The header's words are those of docs/RULES.md, for each number of a call or a message, and for no other."""
+    header, order, words = page("include/esquirmell.h"), orders(), refusal_words()
+    header.cover_first(number for number, line in enumerate(header.lines, 1) if re.match(r"\s+case \d+:", line))
     should = sorted(set(order["run"] + order["counts"] + order["question"]), key=int) + order["message"]
-    yield from differ("include/esquirmell.h, the refusals", [found.group(1) for found in said.values() if found], should)
+    yield from differ("include/esquirmell.h, the refusals", [str(number) for number in words], should)
+    for _, _, before in REFUSALS:
+        for row in page("docs/RULES.md").table(before):
+            if words.get(int(row[0])) != row[-1]:
+                yield "docs/RULES.md, refusal %s: it says '%s', and esquirmell_words '%s'" % (row[0], row[-1], words.get(int(row[0])))
 
 
 # ---- Quotes of the source
@@ -356,18 +367,19 @@ def crates_drawn():
 # ---- Times
 
 def times():
-    """A row's ns a byte is its ms over the day's bytes, as far as the ms are given."""
+    """A row's ns a byte are its ms over the day's bytes, rounded, with two figures or more."""
     performance = page("docs/PERFORMANCE.md")
     size = int(re.search(r"messages, ([\d,]+) bytes \(the same as XML", performance.text).group(1).replace(",", ""))
     for row in performance.table("| filters | states | engine | ms |"):
-        ms = row[3].split(" ")[0]
-        half = 10 ** -len(ms.partition(".")[2]) / 2
-        least, most = ((float(ms) + side) * 1e6 / size for side in (-half, half))
-        if not least - 0.05 <= float(row[4]) <= most + 0.05:
-            yield "docs/PERFORMANCE.md: %s, %s filters: %s ms are not %s ns a byte" % (row[2], row[0], ms, row[4])
+        each = float(row[3].split(" ")[0]) * 1e6 / size
+        should = "%.*f" % (1 if each >= 1 else 2, each)
+        if row[4] != should:
+            yield "docs/PERFORMANCE.md: %s, %s filters: %s ms are %s ns a byte, and not %s" % (
+                row[2], row[0], row[3].split(" ")[0], should, row[4])
 
 
-CHECKS = [small_files, small_day_gives, value_table, kinds_table, limits, refusals, quoted, crates_drawn, times]
+CHECKS = [drawing, small_day_gives, value_table, kinds_table, limits, refusals, header_refusals, quoted, crates_drawn,
+          times]
 
 
 def wrong():

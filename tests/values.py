@@ -11,7 +11,7 @@ import house
 import quotes
 import small_day
 from house import TOP, read, under
-from library import ARCHIVE, Run
+from library import ARCHIVE, CC, Run
 from pages import page
 from small_day import LEAF, SERVICE, SMALL_BOOK, SMALL_DAY, STEP, book, day, node, state, text
 
@@ -74,7 +74,7 @@ def stack():
     with tempfile.TemporaryDirectory() as room:
         program, include = os.path.join(room, "stack"), "-I" + os.path.join(TOP, "include")
         words = ["-std=c11", include, os.path.join(TOP, "bench/stack.c"), ARCHIVE, "-o", program]
-        subprocess.run([os.environ.get("CC", "gcc"), *words], check=True)
+        subprocess.run([*CC, *words], check=True)
         small = [os.path.join(TOP, "small", name) for name in ("book.bin", "day.bin")]
         said = subprocess.run([program, *small], check=True, capture_output=True, text=True).stdout
     return Named(**{name: int(size) for name, size in re.findall(r"^(\w+) +(\d+) bytes", said, re.M)})
@@ -101,8 +101,7 @@ ENTRIES = [entry(at) for at in range(2, 2 + 8 * quotes.two(SMALL_BOOK, 0), 8)]
 
 def asked(k):
     """The questions that message k asks, counted from 1."""
-    at = quotes.four(SMALL_DAY, 8 * k - 6)
-    return Run(SMALL_BOOK, day([SMALL_DAY[at:at + quotes.four(SMALL_DAY, 8 * k - 2)]])).asked
+    return Run(SMALL_BOOK, day([quotes.message_body(k)])).asked
 
 
 def ids(k):
@@ -163,6 +162,7 @@ def values():
         "second": of_case_h(), "stack": stack(), "house": house, "believed": believed.count(believed.follow()),
         "size": lambda path: os.path.getsize(os.path.join(TOP, path)), "order": order, "len": len, "max": max,
         "small": SMALL, "messages": len(MESSAGES), "filters": len(ENTRIES), "entries": ENTRIES, "rows_alike": rows_alike(),
+        "starts": {k: quotes.four(SMALL_DAY, 8 * k - 6) for k in MESSAGES},
         "refused": [k for k in MESSAGES if SMALL.row(k)[0]][0], "asked": asked, "ids": ids, "states": states,
         "number": quotes.message_number, "run_number": quotes.run_number, "relation": relation, "blank": blank,
         "value": lambda words: quotes.value(words.encode()), "alike": alike, "members": quotes.members, "hex": quotes.hexes,
@@ -180,19 +180,23 @@ def timed(column):
     return lambda filters, engine: found[filters, engine]
 
 
+def grown(part):
+    """The ns a byte of a part of the day, with 4,096 slots, as docs/PERFORMANCE.md has them."""
+    parts = {row[0]: row for row in page("docs/PERFORMANCE.md").table("| part of the day |")}
+    return float(parts[part][4].split(" ")[0])
+
+
 def reckoned(ms, whole, anew):
     """The ms of one answer worked out, and of all LEAF states joined, with 64 filters, reckoned from the times."""
-    parts = {row[0]: row for row in page("docs/PERFORMANCE.md").table("| part of the day |")}
-    no_numbers = float(parts["no numbers"][4].split(" ")[0])
     each = (ms(64, "proved, 0 slots") - ms(64, "proved, 4,096 slots")) / (whole.questions - anew)
-    return {"anewTime": each, "leafTime": ms(64, "proved, 4,096 slots") - each * anew - 1e-6 * whole.bytes * no_numbers}
+    return {"anewTime": each, "leafTime": ms(64, "proved, 4,096 slots") - each * anew - 1e-6 * whole.bytes * grown("no numbers")}
 
 
 def bench_values():
     """What bench/run --counts says: of parts of the day, of a run by filters and slots, of finding questions by filters."""
     words = [os.path.join(TOP, "bench/run"), "--counts"]
     said = subprocess.run(words, check=True, capture_output=True, text=True).stdout
-    found = {"runs": {}, "looks": {}, "ms": timed(3), "ratio": timed(5)}
+    found = {"runs": {}, "looks": {}, "ms": timed(3), "ratio": timed(5), "grown": grown}
     for word, *rest in [line.split() for line in said.split("\n") if line and not line.startswith("bench:")]:
         if word == "run":
             found["runs"][int(rest[0]), int(rest[1])] = Named(anew=int(rest[2]), filled=int(rest[3]))

@@ -1,5 +1,5 @@
 // The small program in Rust: reads a filter book and a day file, runs them and prints what the day program prints.
-//   rustc -O small.rs -C link-arg=libexported.a -o small
+//   rustc --edition 2021 -O small.rs -C link-arg=libexported.a -o small
 //   small BOOK DAY
 
 use std::io::{self, Write};
