@@ -23,7 +23,7 @@ import os
 import re
 import sys
 
-from house import TOP, listed, named
+from house import TOP, end_if_wrong, listed, named
 
 C_CODE = {"libc", "io", "os"}
 KIT = {"std": [], "check": [], "bytes": [], "libc": [], "io": ["libc"], "os": ["io", "libc"]}
@@ -118,11 +118,8 @@ def main():
     crates = listed()
     leads = {crate: set(words) | named(crate, crates) for crate, words in crates.items()}
     wrong = [line for crate in crates for line in amiss(crate, leads, sys.argv[1] if sys.argv[1:] else None)]
-    for line in wrong:
-        print("assumed: " + line)
     libraries = sum(map(is_library, crates))
-    if wrong or not libraries:
-        sys.exit("assumed: %d faults" % len(wrong))
+    end_if_wrong("assumed", wrong if libraries else ["no library is listed"])
     programs = len(crates) - libraries
     print("assumed: %d libraries rest on no assumption, %d programs on C functions of the kit" % (libraries, programs))
 

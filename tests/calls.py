@@ -10,15 +10,11 @@ say so.
 import glob
 import os
 import re
-import sys
 
-TOP = os.path.dirname(os.path.dirname(os.path.abspath(__file__)))
+from house import TOP, end_if_wrong, read
+
 PAGE = "docs/PROMISES.md"
 RUN_FROM_C = ["examples/calls.c", "second/case.c"]
-
-
-def read(path):
-    return open(os.path.join(TOP, path), encoding="utf-8").read()
 
 
 def code_of(path):
@@ -120,10 +116,7 @@ def main():
     calls = list(listed())
     wrong = [line for call in calls for line in promised(*call)]
     wrong += list(own_edits(calls)) + list(run_by_a_test(calls)) + list(others(calls))
-    for line in wrong:
-        print("calls: " + line)
-    if wrong or not calls:
-        sys.exit("calls: %d faults in %d public calls" % (len(wrong), len(calls)))
+    end_if_wrong("calls", wrong if calls else ["no public call is listed"])
     print("calls: %d public calls, each with its promise alone, two wrong programs of its own and a test" % len(calls))
 
 

@@ -11,13 +11,13 @@ import subprocess
 import sys
 import tempfile
 
-from house import TOP, read
+from house import TOP, end_if_wrong, read
 from library import Run
 from pages import PAGES, page
 from quotes import differ, printed_lines
 from small_day import SMALL_BOOK, SMALL_DAY
 
-COMMAND = re.compile(r"(?:\$ )?(?:\./|rt |gcc |rustc |python3 |printf |cmp |bench/|second/|tests/|compare |store )")
+COMMAND = re.compile(r"(?:\$ )?(?:\./|rt |man |gcc |rustc |python3 |printf |cmp |bench/|second/|tests/|compare |store )")
 NEEDED = ["esquirmell", "run", "VERSION", "crates.txt", "tool", "include", "examples", "small", "docs"]
 PROVER = "it takes the prover, and is for one who changes a crate; ./test does the same for all crates by rt ci"
 SAYS = re.compile(r"On standard error it says each refusal in words: `(.*?)`")
@@ -67,12 +67,13 @@ def gives(output):
     return check
 
 
-def with_rust(check):
+def where(tool, check):
+    """Where a tool is there that a machine need not have."""
     def perhaps(room, command):
-        if shutil.which("rustc"):
+        if shutil.which(tool):
             yield from check(room, command)
         else:
-            print("commands: rustc is not here, so '%s' was not run" % command)
+            print("commands: %s is not here, so '%s' was not run" % (tool, command))
     return perhaps
 
 
@@ -98,8 +99,8 @@ COMMANDS = {
         "./test": "it is what runs this",
         "rt staticlib exported": in_gate("rt staticlib exported"),
         "./small_day small/book.bin small/day.bin": prints(64),
-        "rustc --edition 2021 -O examples/rust/small.rs -C link-arg=target/staticlib/libexported.a -o small_rust": with_rust(works),
-        "./small_rust small/book.bin small/day.bin": with_rust(prints(64)),
+        "rustc --edition 2021 -O examples/rust/small.rs -C link-arg=target/staticlib/libexported.a -o small_rust": where("rustc", works),
+        "./small_rust small/book.bin small/day.bin": where("rustc", prints(64)),
     },
     "include/esquirmell.h": {
         "rt staticlib exported": in_gate("rt staticlib exported"),
@@ -119,6 +120,9 @@ COMMANDS = {
         "compare [SEED] [half | quick] [table]": "second/check runs it",
         "store check FOLDER SMALL": "second/check runs it",
         "store write FOLDER": "second/check runs it",
+    },
+    "docs/COMMAND.md": {
+        "man -l docs/esquirmell.1": where("man", works),
     },
     "docs/PERFORMANCE.md": {
         "bench/run": "it times for a minute; ./test compiles it, and takes its counts by bench/run --counts",
@@ -193,10 +197,7 @@ def main():
     with tempfile.TemporaryDirectory() as room:
         prepared(room)
         faults = list(wrong(room))
-    for line in faults:
-        print("commands: " + line)
-    if faults:
-        sys.exit("commands: %d faults" % len(faults))
+    end_if_wrong("commands", faults)
     every = [(name, command, COMMANDS.get(name, {}).get(command)) for name in PAGES for command, _ in shown(name)]
     for name, command, how in [row for row in every if "-v" in sys.argv[1:] and isinstance(row[2], str)]:
         print("commands: %s: '%s' is not run: %s" % (name, command, how))

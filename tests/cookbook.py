@@ -15,7 +15,7 @@ import re
 import subprocess
 import sys
 
-from house import TOP
+from house import TOP, end_if_wrong
 from library import Run
 from pages import page
 from quotes import events, message_body, two
@@ -174,10 +174,7 @@ def main():
     if len(sys.argv) != 2:
         sys.exit(__doc__)
     faults = list(wrong(sys.argv[1])) + list(together_amiss(sys.argv[1]))
-    for line in faults:
-        print("cookbook: " + line)
-    if faults:
-        sys.exit("cookbook: %d faults" % len(faults))
+    end_if_wrong("cookbook", faults)
     print("cookbook: %d filters of %s are made, and true of what the page says" % (len(every()), PAGE))
 
 

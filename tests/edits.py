@@ -17,7 +17,8 @@ import os
 import re
 import sys
 
-TOP = os.path.dirname(os.path.dirname(os.path.abspath(__file__)))
+from house import TOP, end_if_wrong
+
 PAGE = "docs/PROMISES.md"
 LOGS = "target/must-fail"
 COUNT = re.compile(r"(\d+) wrong programs and definitions")
@@ -168,10 +169,7 @@ def tried(logs):
 def try_logs(folder):
     logs = sorted(glob.glob(os.path.join(folder, "*.log")))
     wrong = list(tried([os.path.abspath(path) for path in logs]))
-    for line in wrong:
-        print("edits: " + line)
-    if wrong or not logs:
-        sys.exit("edits: %d of %d made-up logs are not called wrong" % (len(wrong), len(logs)))
+    end_if_wrong("edits", wrong if logs else ["there is no made-up log"])
     print("edits: %d made-up logs, each called wrong" % len(logs))
 
 
@@ -180,10 +178,7 @@ def main():
         return try_logs(sys.argv[2])
     names = edits()
     wrong = [line for edit in names for line in applied(edit)] + list(counted(names)) + list(without(names)) + list(refused(names))
-    for line in wrong:
-        print("edits: " + line)
-    if wrong or not names:
-        sys.exit("edits: %d faults in %d edits" % (len(wrong), len(names)))
+    end_if_wrong("edits", wrong if names else ["there is no edit"])
     print("edits: %d wrong programs and definitions, each refused at the fact that it names" % len(names))
 
 

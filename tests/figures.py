@@ -17,7 +17,7 @@ import sys
 
 import cookbook
 import quotes
-from house import read
+from house import end_if_wrong, read
 from pages import PAGES, page
 from values import TIMES, bench_values, values
 
@@ -100,10 +100,7 @@ def main():
     if how:
         names.update(bench_values())
         wrong += list(amiss(True, names)) + list(runs_amiss(names["runs"]))
-    for line in wrong:
-        print("figures: " + line)
-    if wrong:
-        sys.exit("figures: %d faults" % len(wrong))
+    end_if_wrong("figures", wrong)
     if how != ["--uncovered"]:
         print("figures: %d lines of the table are words of their pages" % len(list(rows(how == ["--bench"]))))
         return

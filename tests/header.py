@@ -17,7 +17,8 @@ import subprocess
 import sys
 import tempfile
 
-TOP = os.path.dirname(os.path.dirname(os.path.abspath(__file__)))
+from house import TOP, end_if_wrong, read
+
 CC, CXX = (shlex.split(os.environ.get(name) or usual) for name, usual in (("CC", "gcc"), ("CXX", "g++")))
 STRICT = ["-pedantic-errors", "-Wall", "-Wextra", "-Werror", "-Iinclude"]
 RESULTS = {"Total": "esq_total", "Answered": "esq_reply", "Part": "esq_part"}
@@ -29,11 +30,6 @@ TYPES = {
     "u32": "uint32_t {0}",
     "usize": "size_t {0}",
 }
-
-
-def read(path):
-    with open(os.path.join(TOP, path), encoding="utf-8") as f:
-        return f.read()
 
 
 def squeezed(text):
@@ -115,10 +111,7 @@ def main():
     if len(sys.argv) != 2:
         sys.exit(__doc__)
     wrong = [*as_exported(), *all_named(), *in_rust(), *compiled(os.path.abspath(sys.argv[1]))]
-    for line in wrong:
-        print("header: " + line)
-    if wrong:
-        sys.exit("header: %d wrong" % len(wrong))
+    end_if_wrong("header", wrong)
     print("header: every constant, field and call is as the library has it")
 
 

@@ -9,9 +9,8 @@ groff, where it is there, must read the page for man without a warning.
 import re
 import shutil
 import subprocess
-import sys
 
-from house import TOP, read
+from house import TOP, end_if_wrong, read
 
 HELP, MAN, PAGE = "tool/help.txt", "docs/esquirmell.1", "docs/COMMAND.md"
 WIDTH = 80
@@ -116,10 +115,7 @@ def main():
     wrong = [*words_amiss(wanted), *program_amiss(wanted), *layout()]
     for where, there in ((MAN, of_man()), (PAGE, of_page())):
         wrong += [line for part in wanted for line in parted(where, part, there[part], wanted[part])]
-    for line in wrong:
-        print("help: " + line)
-    if wrong:
-        sys.exit("help: %d faults" % len(wrong))
+    end_if_wrong("help", wrong)
     counts = [len(wanted[part]) for part in ("words", "options", "statuses", "examples")]
     print("help: %d words, %d options, %d exit statuses and %d examples, the same on three pages" % tuple(counts))
 

@@ -136,13 +136,18 @@ def tables():
                 yield "%s:%d: a row of %d cells in a table of %d" % (page, number, cells(line), wanted)
 
 
+def end_if_wrong(who, wrong):
+    """Prints what a check found wrong, and ends it if that is anything."""
+    for line in wrong:
+        print("%s: %s" % (who, line))
+    if wrong:
+        sys.exit("%s: %d faults" % (who, len(wrong)))
+
+
 def main():
     wrong = list(crates_as_listed()) + list(narrow()) + list(imports_named())
     wrong += list(needs_named()) + list(links()) + list(tables())
-    for line in wrong:
-        print("house: " + line)
-    if wrong:
-        sys.exit("house: %d faults" % len(wrong))
+    end_if_wrong("house", wrong)
     print("house: crates.txt, columns, imports, needs, links and tables are as they should be")
 
 

@@ -19,9 +19,8 @@ import functools
 import glob
 import os
 import re
-import sys
 
-from house import TOP, listed, read
+from house import TOP, end_if_wrong, listed, read
 from pages import texts
 
 PAGE = "docs/PROMISES.md"
@@ -33,10 +32,10 @@ NOTATION = {
     "CONTRIBUTING.md": {"was x", "left x", "# true: TEXT"},
     "second/README.md": {'LINK="-lpthread -ldl" second/check lib.a'},
     "docs/COMMAND.md": {"0 TRUE", "0 LEAF > 5", "0 AND 1 2", "0 OR 1 2", "0 NOT 1", "0 STEP 3 -> 1", "start 1", 'text "6"', "end 1",
-                        "bytes 01 ff", r"\xHH", "STEP service -> 1", "start @day", "man -l docs/esquirmell.1"},
+                        "bytes 01 ff", r"\xHH", "STEP service -> 1", "start @day"},
     "docs/ARCHITECTURE.md": {"day_tally"},  # a crate of a later request
     "docs/DECISIONS.md": {"endian"},  # a name that was not taken
-    "docs/HELP.md": {"rt doc", "λ r. ..", "f x y", "f (g x) y", "was x", "left x", "now x", "lent ..", "returned ..", "a ≡ b", "A × B",
+    "docs/HELP.md": {"λ r. ..", "f x y", "f (g x) y", "was x", "left x", "now x", "lent ..", "returned ..", "a ≡ b", "A × B",
                      "A → B", "A ↔ B", "A → ⊥", "(n : ℕ) → A", "x .field", "a ∷ s", "s ++ t"},
     "docs/RULES.md": {"OR 1 2",  # what follows is XPath
                       "//late", "//@day", "/service[call]", "/service[@day]/call/late", "/service/@day = 6", "/service[@day = 6]",
@@ -146,10 +145,7 @@ def unknown_names():
 
 def main():
     wrong = list(unknown_names())
-    for line in wrong:
-        print("promises: " + line)
-    if wrong:
-        sys.exit("promises: %d faults" % len(wrong))
+    end_if_wrong("promises", wrong)
     count = len(set(names_of(PAGE)[0]))
     print("promises: %d names on %s, and those of the other pages, are in the tree" % (count, PAGE))
 

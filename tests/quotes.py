@@ -14,7 +14,7 @@
 import re
 import sys
 
-from house import listed, read, under
+from house import end_if_wrong, listed, read, under
 from library import Run
 from pages import page, refusal_words
 from small_day import LEAF, NOT, SMALL_BOOK, SMALL_DAY, STEP, TRUE, book, day, end, node, start, state, text, u16, u32
@@ -388,10 +388,7 @@ def wrong():
 
 def main():
     faults = wrong()
-    for line in faults:
-        print("quotes: " + line)
-    if faults:
-        sys.exit("quotes: %d faults" % len(faults))
+    end_if_wrong("quotes", faults)
     print("quotes: the pages' bytes, lines, tables and contracts are what the files, the library and the source have")
 
 

@@ -17,7 +17,8 @@ import subprocess
 import sys
 import tempfile
 
-TOP = os.path.dirname(os.path.dirname(os.path.abspath(__file__)))
+from house import TOP, end_if_wrong
+
 JOBS = 2
 
 
@@ -132,10 +133,7 @@ def main():
         with tempfile.TemporaryDirectory() as room, concurrent.futures.ThreadPoolExecutor(JOBS) as pool:
             made = groups(names)
             wrong = sum(pool.map(lambda group: proved(group, room), made), [])
-    for line in wrong:
-        print("restated: " + line)
-    if wrong or not names:
-        sys.exit("restated: %d faults in %d statement edits" % (len(wrong), len(names)))
+    end_if_wrong("restated", wrong if names else ["there is no statement edit"])
     if "--lines" in words:
         print("restated: %d statement edits, each with its true form" % len(names))
         return

@@ -12,10 +12,9 @@ import re
 import shutil
 import signal
 import subprocess
-import sys
 import tempfile
 
-from house import TOP, read, under
+from house import TOP, end_if_wrong, read, under
 
 TOOLS = ["bash", "cat", "date", "dirname", "env", "find", "flock", "grep", "head", "mkdir", "mktemp", "mv", "nice", "nproc", "python3",
          "realpath", "rm", "sed", "setsid", "sleep", "tail", "tee", "touch", "wc"]
@@ -260,10 +259,7 @@ def main():
     with tempfile.TemporaryDirectory() as place:
         room = Room(place)
         wrong = [line for step in steps for line in step(room)] + list(one_word_for_cc())
-    for line in wrong:
-        print("scripts: " + line)
-    if wrong:
-        sys.exit("scripts: %d faults" % len(wrong))
+    end_if_wrong("scripts", wrong)
     print("scripts: ./esquirmell, ./run and ./test build, wait, refuse and hand on as they should")
 
 

@@ -7,6 +7,7 @@
 #ifndef TOOL_COMMAND_H
 #define TOOL_COMMAND_H
 
+#include <stdarg.h>
 #include <stdbool.h>
 #include <stddef.h>
 #include <stdint.h>
@@ -58,6 +59,8 @@ typedef struct {
 /* ---- input.c: files, numbers, names ------------------------------------- */
 
 void *must(void *room);
+void say(desk *d, const char *head, const char *form, va_list rest, const char *tail)
+    __attribute__((format(printf, 3, 0)));
 int fail(desk *d, const char *form, ...) __attribute__((format(printf, 2, 3)));
 int read_file(desk *d, const char *path, size_t most, file *out);
 int read_text_file(desk *d, const char *path, file *out);

@@ -16,13 +16,18 @@ void *must(void *room) {
     return room;
 }
 
+/* A line on standard error that names the command. */
+void say(desk *d, const char *head, const char *form, va_list rest, const char *tail) {
+    fprintf(d->err, "esquirmell: %s", head);
+    vfprintf(d->err, form, rest);
+    fprintf(d->err, "%s\n", tail);
+}
+
 /* Says why the call could not be tried. */
 int fail(desk *d, const char *form, ...) {
     va_list rest;
     va_start(rest, form);
-    fputs("esquirmell: ", d->err);
-    vfprintf(d->err, form, rest);
-    fputc('\n', d->err);
+    say(d, "", form, rest, "");
     va_end(rest);
     return FAILED;
 }

@@ -81,9 +81,8 @@ int say_refused_run(desk *d, const file *book, const file *day, uint64_t refusal
 int differ(desk *d, const char *form, ...) {
     va_list rest;
     va_start(rest, form);
-    fputs("esquirmell: DIFFERENT ANSWERS: ", d->err);
-    vfprintf(d->err, form, rest);
-    fputs(". One of them is wrong: please report it, with the files.\n", d->err);
+    say(d, "DIFFERENT ANSWERS: ", form, rest,
+        ". One of them is wrong: please report it, with the files.");
     va_end(rest);
     return DIFFER;
 }
