@@ -2,6 +2,8 @@
 // length.
 // One function a refusal, each an equation to the definition in rules/specs/Book.antt. Read next: book_planner and
 // book_filter_body.
+#![tactic(auto)]
+
 ghost use Rattle.std.specs.Prelude.{◌≡◌, ◌+◌, ◌<◌, ◌≤◌, length};
 ghost use Rattle.lists.specs.Below.{some_below};
 ghost use Rattle.rules.specs.Bytes.{entry_at};

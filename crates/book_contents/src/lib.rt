@@ -1,6 +1,8 @@
 // The book's layout: its table of contents, read entry by entry, and where the states of a body stand. Its `pub` is for
 // sister crates only: they know that the table is whole.
 // specs/BookAccepted.antt says what an accepted book gives. Read next: book_check, which accepts or refuses.
+#![tactic(auto)]
+
 ghost use Rattle.std.specs.Prelude.{◌≡◌, ◌+◌, ◌*◌, ◌^◌, ◌<◌, ◌≤◌, length};
 ghost use Rattle.rules.specs.Bytes.{entry_at};
 ghost use Rattle.rules.specs.Book.{state_width, filter_count, id_of, body_start, body_size};

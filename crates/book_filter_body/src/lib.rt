@@ -3,6 +3,8 @@
 // `filter_body` hands back a part of the caller's own slice; `part_of` gives the same as a start and a length, for
 // callers that cannot be handed a reference.
 // Promises: rules/specs/Promise.antt, BodyPromise and PartPromise; definitions: Book.antt there.
+#![tactic(auto)]
+
 ghost use Rattle.std.specs.Prelude.{◌≡◌};
 ghost use Rattle.rules.specs.Book.{filter_count, book_refusal, part_among};
 ghost use Rattle.rules.specs.Promise.{BodyPromise, PartPromise};

@@ -1,6 +1,7 @@
 // What a plan is: an accepted book's states decoded once, WIDTH numbers a state; its length says how many there are.
 // The crate holds no function: book_planner makes a plan.
 // Callers know a plan by one name, PlanOf: "this plan is that book's".
+#![tactic(auto)]
 
 // A state's numbers: its kind, and two more by the kind.
 pub const WIDTH: usize = 3;

@@ -2,6 +2,8 @@
 // book again.
 // Its `pub` is for sister crates only: `make` is lent book_plan::ROOM numbers. What a plan is:
 // book_plan/specs/Plan.antt; what `make` promises: Made in specs/Make.antt.
+#![tactic(auto)]
+
 ghost use Rattle.std.specs.Prelude.{◌≡◌, ◌+◌, ◌*◌, ◌^◌, ◌<◌, ◌≤◌, length, get_or};
 ghost use Rattle.rules.specs.Book.{most_states, state_width, book_refusal};
 ghost use Rattle.book_plan.specs.Plan.{plan_width, plan_room};

@@ -2,6 +2,8 @@
 // successors that lead astray.
 // Its `pub` is for sister crates only. A state's 8 bytes are read once and decided on as plain numbers. Read next:
 // book_check.
+#![tactic(auto)]
+
 ghost use Rattle.std.specs.Prelude.{◌≡◌, not, false, ◌+◌, ◌*◌, ◌<◌, ◌≤◌, length};
 ghost use Rattle.lists.specs.Below.{some_below};
 ghost use Rattle.rules.specs.Bytes.{entry_at};

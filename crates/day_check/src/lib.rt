@@ -3,6 +3,8 @@
 // Every other `pub` is for sister crates, which hold an accepted day file: its message count, and a message as a part
 // of the file's own slice.
 // Definitions: rules/specs/DayFile.antt; what acceptance gives: specs/DayAccepted.antt.
+#![tactic(auto)]
+
 ghost use Rattle.std.specs.Prelude.{◌≡◌, ◌+◌, ◌^◌, ◌<◌, ◌≤◌, length};
 ghost use Rattle.rules.specs.Bytes.{entry_at};
 ghost use Rattle.rules.specs.DayFile.{message_count, message_start, message_length, message_body, day_off, messages_astray};

@@ -1,6 +1,8 @@
 // The pass over the messages of an accepted day file, from any filled slots, wrong answers and all. Its `pub` is for
 // sister crates only: day_run has the public calls.
 // Read specs/Passing first: what a call is lent, what one message leaves, and what the loop keeps.
+#![tactic(auto)]
+
 ghost use Rattle.std.specs.Prelude.{◌≡◌, ◌+◌, ◌*◌, ◌≤◌, length};
 ghost use Rattle.rules.specs.DayFile.{message_count};
 ghost use Rattle.rules.specs.Run.{row_width, pass_day};

@@ -1,6 +1,8 @@
 // The pass over the messages of an accepted day file with nothing lent but what the public calls are lent: it makes the
 // plan of the book and the index of the filled slots. Its `pub` is for sister crates only: a caller shows RunAccepted.
 // Read specs/RunAccepted first, and day_pass, which passes over the messages. Read next: day_run.
+#![tactic(auto)]
+
 ghost use Rattle.std.specs.Prelude.{◌≡◌, ◌≤◌, length};
 ghost use Rattle.rules.specs.Run.{pass_day};
 ghost use Rattle.rules.specs.Promise.{lent};

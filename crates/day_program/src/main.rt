@@ -1,6 +1,8 @@
 // The day program: reads book.bin and day.bin, lends 64 slots and room for 1,024 messages, and prints each message's
 // row and the total.
 // What it prints is tested, not proved; all that matters is in day_run.
+#![tactic(auto)]
+
 ghost use Rattle.std.specs.Prelude.{◌+◌, ◌*◌, ◌<◌, ◌≤◌, length};
 ghost use Rattle.rules.specs.Book.{most_filters};
 ghost use Rattle.rules.specs.Run.{row_width};

@@ -1,6 +1,8 @@
 // The refusals of a run, and of the pass from any filled slots: one number for all that is lent, 0 where nothing is
 // refused. Its `pub` is for sister crates only: neither function has a premise, and neither is a public call.
 // Definitions: run_refusal of rules/specs/Run.antt, pass_refusal of Calls.antt. Read next: day_run, which refuses so.
+#![tactic(auto)]
+
 ghost use Rattle.std.specs.Prelude.{◌≡◌};
 ghost use Rattle.rules.specs.Run.{run_refusal};
 ghost use Rattle.rules.specs.Calls.{pass_refusal};

@@ -1,6 +1,8 @@
 // A message's row among the answers: the filters at the root of a message that is read, and the row's numbers put in
 // their place. Its `pub` is for sister crates only: a caller shows the plan, the levels and the room for the row.
 // Read specs/Row first. Read next: day_pass.
+#![tactic(auto)]
+
 ghost use Rattle.std.specs.Prelude.{◌≡◌, [], ◌∷◌, ◌+◌, ◌*◌, ◌≤◌, length};
 ghost use Rattle.lists.specs.Parts.{patch};
 ghost use Rattle.rules.specs.Book.{book_refusal};

@@ -1,6 +1,8 @@
 // Two public calls: a run over a day file, and the pass from any filled slots. Neither has a premise: what can't be
 // run is refused by a number and nothing lent is altered.
 // Promises: rules/specs/Promise.antt, RunPromise and PassPromise; definitions: Run.antt and Calls.antt there.
+#![tactic(auto)]
+
 ghost use Rattle.std.specs.Prelude.{◌≡◌};
 ghost use Rattle.rules.specs.Calls.{counts};
 ghost use Rattle.rules.specs.Promise.{lent, RunPromise, PassPromise};

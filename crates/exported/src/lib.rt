@@ -1,6 +1,8 @@
 // The public calls for other languages: built by `rt staticlib exported` and declared in include/esquirmell.h. Each
 // hands its arguments on to a call of day_run, memory_question or book_filter_body, and has its promise. A slice is a
 // pointer and then a count.
+#![tactic(auto)]
+
 ghost use Rattle.rules.specs.Calls.{counts};
 ghost use Rattle.rules.specs.Promise.{lent, RunPromise, PassPromise, QuestionPromise, PartPromise};
 ghost use Rattle.day_run.specs.Calls.{returned};

@@ -1,10 +1,14 @@
--- A lent slice in a promise: `was` is what it held when the call began, `left` what it holds when the call ends.
-use Rattle.std.specs.Borrow.{Bor}
+-- A lent slice in a promise: `was` is what a slice lent by &mut held when the call began, `left` what it holds when the call ends; `held` is
+-- what a slice lent by & holds throughout.
+use Rattle.std.specs.Borrow.{Bor, MutBor}
 use denote.Triple.Both.{Both}
 pub mod Laws
 
-abbrev pub was : {X Y : Type 0} → Both (Bor X) Y → X
+abbrev pub was : {X Y : Type 0} → Both (MutBor X) Y → X
 was s = s.entry.now
 
-abbrev pub left : {X Y : Type 0} → Both X (Bor Y) → Y
+abbrev pub left : {X Y : Type 0} → Both X (MutBor Y) → Y
 left s = s.exit.now
+
+abbrev pub held : {X Y : Type 0} → Both (Bor X) Y → X
+held s = s.entry.now

@@ -3,6 +3,8 @@
 // Its `pub` is for sister crates only; `clear` has no premise and is no public call either.
 // Read specs/ in the order of specs/Lib.antt: definitions at the door, laws in the folder behind each. Read next:
 // crate rules.
+#![tactic(auto)]
+
 ghost use Rattle.std.specs.Prelude.{◌≡◌, length, replicate};
 ghost use Rattle.lists.specs.Same.{same_list};
 

@@ -4,6 +4,8 @@
 // no premise.
 // Its definition is `ask_next` of rules/specs/Pass.antt: the question counted, and put to `ask` of Memory.antt, for any
 // filled slots, right or wrong.
+#![tactic(auto)]
+
 ghost use Rattle.std.specs.Prelude.{◌≡◌, length};
 ghost use Rattle.std.proofs.Math.Option.{none};
 ghost use Rattle.rules.specs.Sets.{set_width, work_out};

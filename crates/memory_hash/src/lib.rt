@@ -1,6 +1,8 @@
 // A hash of the numbers of a question: its place among the heads of the index. Its `pub` is for sister crates only: a
 // caller shows the length.
 // Callers use one fact of it, that it is below the count of heads. Read next: memory_index.
+#![tactic(auto)]
+
 ghost use Rattle.std.specs.Prelude.{◌≡◌, ◌^◌, ◌<◌, length};
 ghost use Rattle.rules.specs.Memory.{question_width};
 ghost use Rattle.memory_hash.specs.Hash.{lane_of, hash_of, heads};

@@ -3,6 +3,8 @@
 // of the memory: specs/Index.antt.
 // Its `pub` is for sister crates only: a caller shows that the index is that of the filled slots. Read next:
 // memory_ask.
+#![tactic(auto)]
+
 ghost use Rattle.std.specs.Prelude.{◌≡◌, ◌+◌, ◌≤◌, ◌<◌, length, replicate};
 ghost use Rattle.std.proofs.Math.Option.{none};
 ghost use Rattle.rules.specs.Sets.{set_width};

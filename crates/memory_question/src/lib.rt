@@ -3,6 +3,8 @@
 // It makes the plan of the book and the index of the filled slots, and calls the very function that the run calls,
 // `memory_ask::ask`.
 // Its promise: rules/specs/Promise.antt, QuestionPromise; its definition: Calls.antt there.
+#![tactic(auto)]
+
 ghost use Rattle.std.specs.Prelude.{◌≡◌};
 ghost use Rattle.rules.specs.Book.{states_of};
 ghost use Rattle.rules.specs.Memory.{question_in};

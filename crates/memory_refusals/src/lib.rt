@@ -1,6 +1,8 @@
 // The refusals of a question: one number for all that the inner call is lent, 0 where nothing is refused. Its `pub` is
 // for sister crates only: `refusal_of` has no premise and is no public call either.
 // Definition: question_refusal of rules/specs/Calls.antt. Read next: memory_question, which refuses so.
+#![tactic(auto)]
+
 ghost use Rattle.std.specs.Prelude.{◌≡◌};
 ghost use Rattle.rules.specs.Calls.{question_refusal};
 ghost use Rattle.memory_refusals.specs.Question.{question_lent};

@@ -2,6 +2,8 @@
 // other crate knows where a slot lies or how it is laid out.
 // Its `pub` is for sister crates only: a caller shows the lengths; `lent` has no premise and is no public call either.
 // Definitions: rules/specs/Memory.antt. Read next: memory_index.
+#![tactic(auto)]
+
 ghost use Rattle.std.specs.Prelude.{◌≡◌, ◌++◌, ◌≤◌, length};
 ghost use Rattle.rules.specs.Sets.{set_width};
 ghost use Rattle.rules.specs.Memory.{question_width, slot_width, most_slots, question_in};

@@ -2,6 +2,8 @@
 // crates only: message_events reads the event.
 // The refusal is `end_refusal` of rules/specs/Message.antt; specs/Ends says what becomes of the workspace and the
 // memory. Read next: message_events.
+#![tactic(auto)]
+
 ghost use Rattle.std.specs.Prelude.{◌≡◌, ◌<◌};
 ghost use Rattle.rules.specs.Message.{end_refusal};
 ghost use Rattle.book_plan.specs.Plan.{states_in};

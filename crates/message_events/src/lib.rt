@@ -3,6 +3,8 @@
 // message_reading reads whole messages.
 // Read specs/Meant and specs/Step first: what an answer means, and what each event does to all that is lent. Read next:
 // message_step.
+#![tactic(auto)]
+
 ghost use Rattle.std.specs.Prelude.{◌≡◌, ◌<◌};
 ghost use Rattle.rules.specs.Written.{text_limit};
 ghost use Rattle.book_plan.specs.Plan.{Planned, meaning_in};

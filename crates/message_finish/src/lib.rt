@@ -2,6 +2,8 @@
 // message_reading reads whole messages.
 // The refusal is `last_refusal` of rules/specs/Message.antt; specs/Finish says what is handed back. Read next:
 // message_reading.
+#![tactic(auto)]
+
 ghost use Rattle.std.specs.Prelude.{◌≡◌, length};
 ghost use Rattle.message_levels.specs.Level.{HasLevel};
 ghost use Rattle.message_finish.specs.Finish.{finished};

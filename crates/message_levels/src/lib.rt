@@ -2,6 +2,8 @@
 // a level stands and what stands where in it. Its `pub` is for sister crates only.
 // Work on one level is lent that level alone, a mutable part from the workspace's middle: each `_at` contract says
 // that the rest of the workspace stays. Read specs/Level first. Read next: message_starts.
+#![tactic(auto)]
+
 ghost use Rattle.std.specs.Prelude.{◌≡◌, ◌++◌, ◌≤◌, length, drop, replicate};
 ghost use Rattle.rules.specs.Sets.{set_width, leaves_of};
 ghost use Rattle.rules.specs.Memory.{question_width, key_of};

@@ -2,6 +2,8 @@
 // a day's messages.
 // Read specs/Agree first: it ties the workspace and the memory to the reading of the rules, event by event; then
 // specs/Outcomes, what a message leaves.
+#![tactic(auto)]
+
 ghost use Rattle.std.specs.Prelude.{◌≤◌, length};
 ghost use Rattle.rules.specs.Run.{workspace_width};
 ghost use Rattle.book_plan.specs.Plan.{meaning_in};

@@ -2,6 +2,8 @@
 // sister crates only: message_events reads the event.
 // The refusal is `start_refusal` of rules/specs/Message.antt; specs/Starts says what becomes of the workspace. Read
 // next: message_texts.
+#![tactic(auto)]
+
 ghost use Rattle.std.specs.Prelude.{◌≡◌, ◌+◌};
 ghost use Rattle.rules.specs.State.{attribute};
 ghost use Rattle.rules.specs.Message.{start_refusal, stage_after};

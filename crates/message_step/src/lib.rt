@@ -1,6 +1,8 @@
 // One event of a message, by its kind byte. Its `pub` is for sister crates only: message_reading goes from event to
 // event.
 // Read specs/Kinds first: what an event of each kind does to all that is lent. Read next: message_finish.
+#![tactic(auto)]
+
 ghost use Rattle.std.specs.Prelude.{◌≡◌};
 ghost use Rattle.book_plan.specs.Plan.{meaning_in};
 ghost use Rattle.memory_ask.specs.Ask.{CanAsk};

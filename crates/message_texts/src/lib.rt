@@ -2,6 +2,8 @@
 // sister crates only: message_events reads the event.
 // specs/Texts says what becomes of the workspace; the refusal in it is `text_refusal` of rules/specs/Message.antt. Read
 // next: message_ends.
+#![tactic(auto)]
+
 ghost use Rattle.std.specs.Prelude.{◌≡◌};
 ghost use Rattle.book_plan.specs.Plan.{Planned, meaning_in};
 ghost use Rattle.message_levels.specs.Level.{HasLevel};

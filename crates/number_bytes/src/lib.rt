@@ -2,6 +2,8 @@
 // one equation to rules/specs/Bytes.antt. Its `pub` is for sister crates only: they know the lengths that `requires`
 // asks.
 // Read next: book_check and day_check.
+#![tactic(auto)]
+
 ghost use Rattle.std.specs.Prelude.{◌≡◌, ◌+◌, ◌*◌, ◌^◌, ◌<◌, ◌≤◌, length, get_or};
 ghost use Rattle.rules.specs.Bytes.{le2, le4, entry_at, signed4};
 

@@ -2,6 +2,8 @@
 // function has a premise, and neither is a public call.
 // Crate rules says what a text's value is (Value) and what the relations are (State); specs/Meant says which of those
 // values an answer is. Read specs/Meant first, then text_value from the bottom up. Read next: set_leaves.
+#![tactic(auto)]
+
 ghost use Rattle.std.specs.Prelude.{◌≡◌, ◌≤◌, length, take, drop, pos, neg_ℤ};
 ghost use Rattle.rules.specs.Value.{lowest, is_space, strip_start, strip_end, in_range, digits_from, whole_number};
 ghost use Rattle.rules.specs.Value.{text_value};

@@ -11,6 +11,8 @@
 // 2, filled 1. `rows`: both filters, and the first alone. `slot`: what the first message asked, and its answer.
 // The pass from that slot takes the first answer from it and works the second out. `pass`: asked 4, anew 3, filled 1.
 // The inner call asked the slot's question gives its answer and leaves the counts: `inner` and `answer`.
+#![tactic(auto)]
+
 use libc::STDOUT_FILENO;
 
 fn put(n: u64) {

@@ -1,6 +1,8 @@
 // Sets of states: eight 64-bit numbers, each function one equation to rules/specs/Sets.antt. Its `pub` is for sister
 // crates only.
 // State k is bit k mod 64 of number k div 64. Read next: set_complete, which completes a set by a plan.
+#![tactic(auto)]
+
 ghost use Rattle.std.specs.Prelude.{◌≡◌, ◌<◌, ◌≤◌, length};
 ghost use Rattle.rules.specs.Book.{most_states};
 ghost use Rattle.rules.specs.Sets.{set_width, has as member, either};

@@ -3,6 +3,8 @@
 // Its contract is one equation to `completed` of rules/specs/Sets.antt, over the states that the plan holds. Read
 // complete first; it asks of one state, from the state's numbers in the plan, what specs/OneState says. Read next:
 // set_work and set_filters, which begin with it.
+#![tactic(auto)]
+
 ghost use Rattle.std.specs.Prelude.{◌≡◌, ◌<◌, ◌≤◌, length};
 ghost use Rattle.rules.specs.Book.{most_states};
 ghost use Rattle.rules.specs.Sets.{set_width, has as member, completes};

@@ -1,6 +1,8 @@
 // The filters of a message at its root, where no question is asked. Its `pub` is for sister crates only.
 // A filter's state 0 may be an AND, an OR or a NOT, so the root's set is completed before a filter is read off it.
 // Read filters first; what it needs of the book, book_contents/specs/BookAccepted says.
+#![tactic(auto)]
+
 ghost use Rattle.std.specs.Prelude.{◌≡◌, ◌*◌, ◌^◌, ◌<◌, ◌≤◌, length};
 ghost use Rattle.lists.specs.Below.{bit};
 ghost use Rattle.rules.specs.Book.{most_filters, states_of};

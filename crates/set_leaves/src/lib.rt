@@ -3,6 +3,8 @@
 // Its contract is one equation to `leaves_of` of rules/specs/Sets.antt, over the states that the plan holds. Read leaves
 // first; it asks of one state, from the state's numbers in the plan, what specs/OneState says. Read next:
 // set_complete.
+#![tactic(auto)]
+
 ghost use Rattle.std.specs.Prelude.{◌≡◌, ◌^◌, ◌<◌, ◌≤◌, length};
 ghost use Rattle.rules.specs.Book.{most_states};
 ghost use Rattle.rules.specs.Sets.{set_width, either, is_leaf_of, leaves_of};

@@ -3,6 +3,8 @@
 // Its contract is one equation to `work_out` of rules/specs/Sets.antt, over the states that the plan holds. Read
 // work_out first, then the loop that answers; it asks of one state, from the state's numbers in the plan, what
 // specs/OneState says. Read next: memory_ask.
+#![tactic(auto)]
+
 ghost use Rattle.std.specs.Prelude.{◌≡◌, ◌≤◌, length};
 ghost use Rattle.rules.specs.State.{fits as fitting};
 ghost use Rattle.rules.specs.Book.{most_states};

@@ -2,3 +2,4 @@
 // promises shut it out. It holds no function.
 // Read specs/Runs.antt, of the run's promise, then specs/Calls.antt, of the promises of the pass and of the inner
 // call.
+#![tactic(auto)]

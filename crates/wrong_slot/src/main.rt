@@ -13,6 +13,8 @@
 // holds eight full numbers, 1, and 1 0 0 0 0 0 0 0. `pass`: refusal 0, asked 2, anew 6, filled 2.
 // State 0 is at the root, so the filter is true: `row` is 0 0 1. Worked out by the match rule it would be 0 0 0, and
 // slot 2 would ask the empty set.
+#![tactic(auto)]
+
 ghost use Rattle.std.specs.Prelude.{◌*◌, ◌≤◌, length};
 ghost use Rattle.rules.specs.Memory.{slot_width};
 

@@ -3,7 +3,7 @@
 use Rattle.std.specs.Prelude.{◌≡◌, refl, List, ℕ, ◌+◌}
 use Rattle.std.specs.Borrow.{Bor, MutBor}
 use denote.Triple.Both.{Both}
-use Rattle.lists.specs.Lending.{was}
+use Rattle.lists.specs.Lending.{was, held}
 use Rattle.rules.specs.Book.{book_refusal, body_of, part_of}
 use Rattle.rules.specs.DayFile.{day_refusal}
 use Rattle.rules.specs.Run.{Lent, run}
@@ -28,9 +28,8 @@ the_pass l c = refl
 pub the_reply : (l : QuestionLent) → QuestionPromise l (answer_question l)
 the_reply l = refl
 
-pub the_body : (book : MutBor (List ℕ)) (id : ℕ) → BodyPromise book id (record {
+pub the_body : (book : Bor (List ℕ)) (id : ℕ) → BodyPromise book id (record {
   ref_ptr = (book.ref_ptr.0, book.ref_ptr.1 + (part_of book.now id).start);
-  ghost_name = book.ghost_name;
   now = body_of book.now id;
 })
 the_body book id = refl
@@ -45,9 +44,12 @@ pub the_day : (day : List ℕ) → DayPromise day (day_refusal day)
 the_day day = refl
 
 -- each slice of a call is lent under its own name, as it was when the call began
-abbrev pub Slice : Type 0
-Slice = Both (Bor (List ℕ)) (Bor (List ℕ))
+abbrev pub Shown : Type 0
+Shown = Both (Bor (List ℕ)) (Bor (List ℕ))
 
-pub lent_are : (b d m a w : Slice) →
-    lent b d m a w ≡ record { book = was b; day = was d; memory = was m; answers = was a; workspace = was w }
+abbrev pub Slice : Type 0
+Slice = Both (MutBor (List ℕ)) (MutBor (List ℕ))
+
+pub lent_are : (b d : Shown) (m a w : Slice) →
+    lent b d m a w ≡ record { book = held b; day = held d; memory = was m; answers = was a; workspace = was w }
 lent_are b d m a w = refl
