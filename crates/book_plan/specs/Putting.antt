@@ -9,9 +9,11 @@ use Rattle.std.specs.Int.{w64}
 use Rattle.rules.specs.State.{State}
 use Rattle.rules.specs.Book.{most_states}
 use Rattle.rules.specs.Sets.{set_width, bits_each, has, set_of}
-use Rattle.rules.specs.Match.Settle.{Inside}
-use Rattle.rules.specs.Sets.Laws.{put, Upto, upto_up, upto_down, set_ext, set_of_long, set_of_fits, has_set_of, has_past}
-use Rattle.book_plan.specs.Plan.{plan_width, plan_state, state_in, state_count, states_in, Planned, states_long, states_at, inside_more}
+use Rattle.rules.specs.Leading.{Inside}
+use Rattle.rules.proofs.Sets.Laws.{Upto, upto_up, upto_down, set_ext, set_of_long, set_of_fits, has_set_of, has_past}
+use Rattle.rules.specs.OneBit.{put}
+use Rattle.book_plan.specs.Plan.{plan_width, plan_state, state_in, state_count, states_in, Planned}
+use Rattle.book_plan.proofs.Plan.{states_long, states_at, inside_more}
 
 -- the bits of s are f below i and g from i on
 pub record Putting (p : List ℕ) (f g : ℕ → Bool) (i : ℕ) (s : List ℕ) : Type 0 where

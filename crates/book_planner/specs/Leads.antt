@@ -6,7 +6,8 @@ use Rattle.lists.specs.Choice.{pick}
 use Rattle.lists.specs.Choice.Laws.{both}
 use Rattle.rules.specs.Bytes.{le2}
 use Rattle.rules.specs.Book.{is_row, leads_well, row_at, leads_at, state_at}
-use Rattle.rules.specs.Match.Settle.{Higher, Inside}
+use Rattle.rules.specs.Leading.{Higher}
+use Rattle.rules.specs.Leading.{Inside}
 
 -- ── the tests of the table, with the body's first state at number base ──
 one_leads : (base i n x : ℕ) → ltb i x && ltb x n ≡ true → (base + i < base + x) × (base + x < base + n)

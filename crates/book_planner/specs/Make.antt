@@ -8,8 +8,10 @@ use Rattle.lists.specs.Below.{up_to}
 use Rattle.lists.specs.Below.Laws.{up_to_same, up_to_add}
 use Rattle.rules.specs.Bytes.{entry_at}
 use Rattle.rules.specs.Book.{most_states, state_width, filter_count, body_start, body_size, states_before, book_refusal, state_at, states_of_first, states_of}
-use Rattle.rules.specs.Match.Settle.{Higher, Inside}
-use Rattle.book_plan.specs.Plan.{plan_width, plan_room, state_in, state_count, states_in, Planned, PlanOf, inside_more}
+use Rattle.rules.specs.Leading.{Higher}
+use Rattle.rules.specs.Leading.{Inside}
+use Rattle.book_plan.specs.Plan.{plan_width, plan_room, state_in, state_count, states_in, Planned, PlanOf}
+use Rattle.book_plan.proofs.Plan.{inside_more}
 use Rattle.book_contents.specs.BookAccepted.{BookAccepted, accepted, states_rise, body_inside, table_inside, entry_inside}
 use Rattle.book_planner.specs.Row.{row_in, row_long, row_before, row_after, row_state}
 use Rattle.book_planner.specs.Leads.{leads_well_lem}

@@ -19,7 +19,8 @@ use Rattle.rules.specs.Sets.{completed}
 use Rattle.rules.specs.Pass.{Carried, pass_message, answer_row, Passed, pass_to}
 use Rattle.rules.specs.Calls.{count_limit}
 use Rattle.rules.specs.Run.{row_width, workspace_width, Lent, Returned, pass_day}
-use Rattle.book_plan.specs.Plan.{meaning_in, PlanOf, plan_means}
+use Rattle.book_plan.specs.Plan.{meaning_in, PlanOf}
+use Rattle.book_plan.proofs.Plan.{plan_means}
 use Rattle.memory_index.specs.Index.{Indexed}
 use Rattle.day_check.specs.DayAccepted.{DayAccepted, accepted, bytes_rise, message_long}
 use Rattle.message_finish.specs.declared.Ended.{Ended}

@@ -10,7 +10,7 @@ use Rattle.rules.specs.Book.{book_checks, book_refusal}
 use Rattle.rules.specs.DayFile.{message_count, day_checks, day_refusal}
 use Rattle.rules.specs.Memory.{slots_lent}
 use Rattle.rules.specs.Run.{row_width, workspace_width, Lent, lent_checks, run_checks, run_refusal}
-use Rattle.rules.specs.Run.Laws.{no_zero_lem}
+use Rattle.rules.proofs.Run.Laws.{no_zero_lem}
 use Rattle.rules.specs.Calls.{count_limit, Counts, count_checks, pass_refusal}
 use Rattle.day_check.specs.DayAccepted.{day_two}
 

@@ -9,7 +9,7 @@ use Rattle.rules.specs.Book.{book_refusal}
 use Rattle.rules.specs.DayFile.{message_count, day_refusal}
 use Rattle.rules.specs.Memory.{slots_lent}
 use Rattle.rules.specs.Run.{row_width, workspace_width, Lent, lent_checks, run_refusal, refused_run, pass_day, run}
-use Rattle.rules.specs.Run.Laws.{run_refused, run_accepted}
+use Rattle.rules.proofs.Run.Laws.{run_refused, run_accepted}
 use Rattle.rules.specs.Calls.{count_limit, counts, pass_refusal, pass_from}
 use Rattle.rules.specs.Calls as rules
 use Rattle.memory_ask.specs.declared.Counts.{Counts}

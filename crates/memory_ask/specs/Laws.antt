@@ -6,8 +6,8 @@ use Rattle.std.proofs.Math.Option.{Option, none, some}
 use Rattle.rules.specs.State.{State}
 use Rattle.rules.specs.Sets.{Question, work_out}
 use Rattle.rules.specs.Memory.{question_width, question_in, slot_answer, slots_lent, Kept, first_slot, Reply, ask}
-use Rattle.rules.specs.Memory.Key.{key_of_lem}
-use Rattle.rules.specs.Memory.Laws.{slot_some, kept_answer, fresh_kept, fresh_full}
+use Rattle.rules.proofs.Memory.Key.{key_of_lem}
+use Rattle.rules.proofs.Memory.Laws.{slot_some, kept_answer, fresh_kept, fresh_full}
 use Rattle.rules.specs.Pass.{Carried, ask_next}
 use Rattle.memory_slots.specs.Slots.{HasSlot, with_slot}
 use Rattle.memory_index.specs.declared.Found.{Found}

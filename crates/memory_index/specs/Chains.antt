@@ -14,8 +14,8 @@ use Rattle.std.proofs.Math.Seq.{get_or-set_other}
 use Rattle.lists.specs.Choice.{pick}
 use Rattle.lists.specs.Same.{same_list}
 use Rattle.rules.specs.Memory.{question_width, most_slots, question_in, slot_question}
-use Rattle.rules.specs.Memory.Key.{key_of_lem}
-use Rattle.rules.specs.Asked.Different.{same_list_eq}
+use Rattle.rules.proofs.Memory.Key.{key_of_lem}
+use Rattle.rules.proofs.Asked.Different.{same_list_eq}
 use Rattle.memory_slots.specs.Slots.{or_else, or_none, first_more}
 use Rattle.memory_hash.specs.Hash.{heads, hash_of, hash_small}
 use Rattle.memory_index.specs.Index.{index_room, first_by, is_none, is_first, entered, index_of}

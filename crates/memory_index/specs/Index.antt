@@ -6,7 +6,7 @@ use Rattle.lists.specs.Choice.{pick}
 use Rattle.lists.specs.Parts.{part}
 use Rattle.lists.specs.Same.{same_list}
 use Rattle.rules.specs.Memory.{slot_width, most_slots, question_in, slot_question, first_slot}
-use Rattle.rules.specs.Memory.Examples.{held}
+use Rattle.rules.proofs.Memory.Examples.{held}
 use Rattle.memory_hash.specs.Hash.{heads, hash_of}
 use Rattle.memory_index.specs.declared.Found.{Found}
 use Rattle.memory_index.specs.declared.Found.TheVariants.{At, Nothing}
@@ -31,11 +31,6 @@ is_none none = true
 -- no slot before slot i asks its question
 unfoldable pub is_first : List ℕ → ℕ → Bool
 is_first m i = is_none (first_by m i (slot_question m i))
-
--- of four slots the last two ask one question: the third is its first
-pub first_alone : map (is_first held) (0 ∷ 1 ∷ 2 ∷ 3 ∷ []) ≡ true ∷ true ∷ true ∷ false ∷ []
-unfolding is_first first_slot slot_question part same_list pick
-first_alone = refl
 
 -- the index when slot n becomes the head of the chain at h
 unfoldable pub entered : List ℕ → ℕ → ℕ → List ℕ

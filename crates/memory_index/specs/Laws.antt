@@ -8,7 +8,7 @@ use Rattle.lists.specs.Choice.{pick}
 use Rattle.lists.specs.Same.{same_list}
 use Rattle.rules.specs.Sets.{set_width}
 use Rattle.rules.specs.Memory.{question_width, question_in, slot_question, slots_lent}
-use Rattle.rules.specs.Memory.Laws.{lent_fits, lent_same}
+use Rattle.rules.proofs.Memory.Laws.{lent_fits, lent_same}
 use Rattle.memory_slots.specs.Slots.{with_slot, lent_few, lent_has, first_agree, first_none, kept_long, kept_asks, kept_before}
 use Rattle.memory_hash.specs.Hash.{heads, hash_of, hash_small}
 use Rattle.memory_index.specs.declared.Found.{Found}

@@ -11,7 +11,8 @@ use Rattle.rules.specs.Sets.{Question}
 use Rattle.rules.specs.Memory.{question_in}
 use Rattle.rules.specs.Pass.{Carried, ask_next}
 use Rattle.rules.specs.Calls.{QuestionLent, question_refusal, answer_question}
-use Rattle.book_plan.specs.Plan.{Planned, states_in, PlanOf, plan_lent}
+use Rattle.book_plan.specs.Plan.{Planned, states_in, PlanOf}
+use Rattle.book_plan.proofs.Plan.{plan_lent}
 use Rattle.memory_ask.specs.declared.Counts.{Counts}
 use Rattle.memory_ask.specs.Ask.{carried_in, replied_in}
 use Rattle.memory_refusals.specs.Laws.{refused_book, past_book}

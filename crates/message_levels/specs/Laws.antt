@@ -8,9 +8,9 @@ use Rattle.lists.specs.Parts.{part}
 use Rattle.lists.specs.Parts.Laws.{part_lent, part_back, part_long, patch_long, patch_same, patch_below, patch_above, patch_past}
 use Rattle.rules.specs.Message.{Level}
 use Rattle.rules.specs.Sets.{set_width, no_states, either}
-use Rattle.rules.specs.Sets.Laws.{either_long}
+use Rattle.rules.proofs.Sets.Laws.{either_long}
 use Rattle.rules.specs.Memory.{question_width, key_of, question_in}
-use Rattle.rules.specs.Memory.Key.{key_of_lem, key_asks}
+use Rattle.rules.proofs.Memory.Key.{key_of_lem, key_asks}
 use Rattle.rules.specs.Run.{level_width, workspace_width}
 use Rattle.message_levels.specs.Level.{label_place, stage_place, level_at, with_level, HasLevel, label_in, stage_in, set_at, asks_at, level_of, opened, staged, joined, opened_at, staged_at, joined_at, OneLevel}
 

@@ -6,7 +6,7 @@ use Rattle.rules.specs.Book.{Meaning}
 use Rattle.rules.specs.Message.{Outcome, place_of, outcome, events, begin, message, last_refusal}
 use Rattle.rules.specs.Sets.{no_states}
 use Rattle.rules.specs.Pass.{Carried, asking, pass_message}
-use Rattle.rules.specs.Message.Events.{events_ended}
+use Rattle.rules.proofs.Message.Events.{events_ended}
 use Rattle.rules.specs.Run.{workspace_width}
 use Rattle.message_levels.specs.Level.{HasLevel, OneLevel, stage_in, set_at, level_of, opened_at}
 use Rattle.message_levels.specs.Laws.{opened_one, opened_holds}

@@ -18,9 +18,9 @@ use Rattle.rules.specs.Message.{Event, start, end, text, bad, got, labelled, tex
 use Rattle.rules.specs.Sets.{leaves_of, Question}
 use Rattle.rules.specs.Memory.{Kept, ask}
 use Rattle.rules.specs.Pass.{asking}
-use Rattle.rules.specs.Message.Events.{events_skip, events_broken, event_refused, first_kind}
+use Rattle.rules.proofs.Message.Events.{events_skip, events_broken, event_refused, first_kind}
 use Rattle.rules.specs.Run.{workspace_width}
-use Rattle.rules.specs.Run.Laws.{accepted_event, refused_event}
+use Rattle.rules.proofs.Run.Laws.{accepted_event, refused_event}
 use Rattle.message_levels.specs.Level.{HasLevel, OneLevel, label_in, stage_in, asks_at, opened_at, staged_at, joined_at}
 use Rattle.message_levels.specs.Laws.{opened_one, staged_one, joined_one, has_still}
 use Rattle.message_starts.specs.Starts.{child_opened, start_room}

@@ -8,7 +8,7 @@ use Rattle.std.proofs.lemmas.Int.{to_z-of_z}
 use borrow.Author.Tests.{eq-eqb, ne_eqb}
 use Rattle.lists.specs.Choice.{pick}
 use Rattle.rules.specs.State.{equal, related}
-use Rattle.rules.specs.State.Laws.{equal_is}
+use Rattle.rules.proofs.State.Laws.{equal_is}
 use Rattle.rules.specs.Book.{relation_of}
 
 -- `==` compares two i32 by their bits, and no two i32 have the same

@@ -1,6 +1,5 @@
 -- The bytes of the small day and of a few messages beside it, written by tests/small_day.py.
 use Rattle.std.specs.Prelude.{List, [], ◌∷◌, ℕ}
-pub mod Examples
 
 -- the filter book of "A small day, whole", 154 bytes
 abbrev pub book : List ℕ

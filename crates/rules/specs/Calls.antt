@@ -9,7 +9,6 @@ use Rattle.rules.specs.Sets.{set_width}
 use Rattle.rules.specs.Memory.{question_width, question_in, slots_lent, Kept, Reply, ask}
 use Rattle.rules.specs.Pass.{Carried}
 use Rattle.rules.specs.Run.{Lent, Returned, run_checks, refused_run, pass_day}
-pub mod Examples
 
 -- ── "the pass over the messages promises this from any filled slots, wrong answers and all" ──
 -- 2^63: a count below it stays below 2^64, whatever a day file asks

@@ -9,8 +9,6 @@ use Rattle.rules.specs.Bytes.{le2}
 use Rattle.rules.specs.State.{any_element, any_attribute, attribute}
 use Rattle.rules.specs.Book.{Meaning, out_of_range}
 use Rattle.rules.specs.Message.{Event, start, text, end, most_open}
-pub mod Laws
-pub mod Refused
 
 -- ── what is open ──
 -- an open start, or the root: its label, and whether a child element and whether a text came in it

@@ -4,7 +4,7 @@ use Rattle.std.proofs.Common.{sym, ◌∙◌, arith, length-set, ext_get_or, get
 use Rattle.std.proofs.Math.Decide.{ℕ_discrete}
 use Rattle.std.specs.Int.Bits.{bit_or}
 use Rattle.rules.specs.Sets.{set_width, either}
-use Rattle.rules.specs.Sets.Laws.{either_at, either_long}
+use Rattle.rules.proofs.Sets.Laws.{either_at, either_long}
 
 -- the numbers below i are joined, the others as they were
 pub record Joining (was other l : List ℕ) (i : ℕ) : Type 0 where

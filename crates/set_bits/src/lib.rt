@@ -6,7 +6,7 @@
 ghost use Rattle.std.specs.Prelude.{◌≡◌, ◌<◌, ◌≤◌, length};
 ghost use Rattle.rules.specs.Book.{most_states};
 ghost use Rattle.rules.specs.Sets.{set_width, has as member, either};
-ghost use Rattle.rules.specs.Sets.Laws.{put as with_bit};
+ghost use Rattle.rules.specs.OneBit.{put as with_bit};
 
 // A set's numbers.
 pub const WIDTH: usize = 8;

@@ -10,9 +10,12 @@ use Rattle.std.specs.Int.{w64}
 use Rattle.rules.specs.State.{State, TRUE}
 use Rattle.rules.specs.Book.{most_states}
 use Rattle.rules.specs.Sets.{set_width, has, set_of, completes, completed}
-use Rattle.rules.specs.Match.Settle.{Inside, completes_rests, completed_law, completed_past}
-use Rattle.rules.specs.Sets.Laws.{put, Upto}
-use Rattle.book_plan.specs.Plan.{plan_width, plan_state, state_in, state_count, states_in, Planned, states_long, states_at}
+use Rattle.rules.proofs.Match.Settle.{completes_rests, completed_law, completed_past}
+use Rattle.rules.specs.Leading.{Inside}
+use Rattle.rules.proofs.Sets.Laws.{Upto}
+use Rattle.rules.specs.OneBit.{put}
+use Rattle.book_plan.specs.Plan.{plan_width, plan_state, state_in, state_count, states_in, Planned}
+use Rattle.book_plan.proofs.Plan.{states_long, states_at}
 use Rattle.book_plan.specs.Putting.{Putting, putting_down, plan_inside, no_bit, far_bit, planned_bit, planned_past, planned_ext}
 
 -- the completed set as eight numbers

@@ -2,8 +2,9 @@
 use Rattle.std.specs.Prelude.{◌≡◌, ◌⊎◌, Bool, true, ◌||◌, ◌&&◌, not, ℕ, ◌<◌}
 use Rattle.std.proofs.Common.{inl, inr}
 use Rattle.rules.specs.Sets.{completes}
-use Rattle.rules.specs.Match.Settle.{Inside}
-use Rattle.book_plan.specs.Plan.{plan_state, state_leaf, state_and, state_or, state_not, state_step, state_other}
+use Rattle.rules.specs.Leading.{Inside}
+use Rattle.book_plan.specs.Plan.{plan_state}
+use Rattle.book_plan.proofs.Plan.{state_leaf, state_and, state_or, state_not, state_step, state_other}
 
 pub and_first : (k x y n : ℕ) → k ≡ 2 → Inside (plan_state k x y) n → x < n
 and_first k x y n e h = (rw (state_and k x y e) at h).0

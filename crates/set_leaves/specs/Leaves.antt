@@ -11,7 +11,8 @@ use Rattle.rules.specs.State.{State}
 use Rattle.rules.specs.Value.{Value}
 use Rattle.rules.specs.Book.{most_states}
 use Rattle.rules.specs.Sets.{set_width, has, either, is_leaf_of, leaves_of}
-use Rattle.rules.specs.Sets.Laws.{put, set_ext, set_of_fits, either_long, either_fits, has_either}
+use Rattle.rules.proofs.Sets.Laws.{set_ext, set_of_fits, either_long, either_fits, has_either}
+use Rattle.rules.specs.OneBit.{put}
 use Rattle.book_plan.specs.Plan.{plan_width, plan_state, state_in, state_count, states_in, Planned}
 use Rattle.book_plan.specs.Putting.{Putting, putting_up, putting_skip, planned_bit, planned_past}
 

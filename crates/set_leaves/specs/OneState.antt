@@ -9,7 +9,8 @@ use Rattle.rules.specs.Sets.{is_leaf_of}
 use Rattle.number_text.specs.declared.Value.{Value}
 use Rattle.number_text.specs.declared.Value.TheVariants.{Number, NoNumber, OutOfRange}
 use Rattle.number_text.specs.Meant.{meant}
-use Rattle.book_plan.specs.Plan.{plan_state, state_true, state_leaf, state_and, state_or, state_not, state_step, state_past}
+use Rattle.book_plan.specs.Plan.{plan_state}
+use Rattle.book_plan.proofs.Plan.{state_true, state_leaf, state_and, state_or, state_not, state_step, state_past}
 
 module _ (k x y : ℕ) (v : Value) (h : k ≡ 1) where
   -- z' and c' are the number and the constant as they are handed to the comparison

@@ -7,9 +7,11 @@ use Rattle.std.specs.Int.{w64}
 use Rattle.rules.specs.State.{State, TRUE, LEAF, AND, OR, NOT, STEP, fits}
 use Rattle.rules.specs.Book.{most_states}
 use Rattle.rules.specs.Sets.{set_width, has, set_of, completed, gives_step, work_out}
-use Rattle.rules.specs.Match.Settle.{Inside}
-use Rattle.rules.specs.Sets.Laws.{put, set_of_agree}
-use Rattle.book_plan.specs.Plan.{plan_width, plan_state, state_in, state_count, states_in, Planned, states_long, states_at}
+use Rattle.rules.specs.Leading.{Inside}
+use Rattle.rules.proofs.Sets.Laws.{set_of_agree}
+use Rattle.rules.specs.OneBit.{put}
+use Rattle.book_plan.specs.Plan.{plan_width, plan_state, state_in, state_count, states_in, Planned}
+use Rattle.book_plan.proofs.Plan.{states_long, states_at}
 use Rattle.book_plan.specs.Putting.{Putting, putting_up, plan_inside, no_bit, planned_bit, planned_past, planned_ext}
 use Rattle.set_complete.specs.Completing.{completed_set, completed_bit}
 

@@ -4,8 +4,9 @@ use Rattle.std.proofs.Common.{eq-eqb, ne_eqb}
 use Rattle.lists.specs.Choice.{pick}
 use Rattle.rules.specs.State.{any_element, any_attribute, label_limit, fits}
 use Rattle.rules.specs.Sets.{gives_step}
-use Rattle.rules.specs.Match.Settle.{Inside}
-use Rattle.book_plan.specs.Plan.{plan_state, state_true, state_leaf, state_and, state_or, state_not, state_step, state_past}
+use Rattle.rules.specs.Leading.{Inside}
+use Rattle.book_plan.specs.Plan.{plan_state}
+use Rattle.book_plan.proofs.Plan.{state_true, state_leaf, state_and, state_or, state_not, state_step, state_past}
 
 -- ── labels ──
 pub fits_element : (l x : ℕ) → l ≡ any_element → ltb any_element x && ltb x any_attribute ≡ fits l x

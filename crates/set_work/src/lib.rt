@@ -9,7 +9,7 @@ ghost use Rattle.std.specs.Prelude.{◌≡◌, ◌≤◌, length};
 ghost use Rattle.rules.specs.State.{fits as fitting};
 ghost use Rattle.rules.specs.Book.{most_states};
 ghost use Rattle.rules.specs.Sets.{set_width, has as member, gives_step, work_out};
-ghost use Rattle.rules.specs.Match.Settle.{Inside};
+ghost use Rattle.rules.specs.Leading.{Inside};
 ghost use Rattle.book_plan.specs.Plan.{plan_state, states_in, Planned};
 ghost use Rattle.set_work.specs.Answering.{answered};
 

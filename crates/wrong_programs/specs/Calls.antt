@@ -7,7 +7,7 @@ use Rattle.rules.specs.Message.{Outcome, message}
 use Rattle.rules.specs.Memory.{slot_width, key_of}
 use Rattle.rules.specs.Pass.{Carried, answer_row}
 use Rattle.rules.specs.Run.{row_width, workspace_width, Lent, Returned}
-use Rattle.rules.specs.ASmallDay.Examples.{run_shown, full}
+use Rattle.rules.proofs.ASmallDay.Examples.{run_shown, full}
 use Rattle.rules.specs.ASmallDay as Small
 use Rattle.rules.specs.Calls.{Counts, pass_refusal, pass_from, QuestionLent, QuestionReturned, question_refusal, answer_question}
 use Rattle.rules.specs.Promise.{PassPromise, QuestionPromise}
@@ -20,10 +20,6 @@ one_question = record { book = Small.book; question = key_of empty_two; room = r
 
 abbrev pub worked_reply : QuestionReturned
 worked_reply = record { refusal = 0; reply = working_out (states_of Small.book) empty_two wrong }
-
-pub reply_shut : QuestionPromise one_question worked_reply → ⊥
-unfolding run_shown answer_question question_refusal
-reply_shut p = let d : ◌≡◌ {A = ℕ} 8192 full = ap (λ o. get_or o.reply.answer 0 0) p in omega arith
 
 -- ── the pass from filled slots ──
 -- a day of one message, and the wrong slot
@@ -51,17 +47,3 @@ worked_pass =
       answers = answer_row Small.book o;
       workspace = replicate workspace_width 0;
     }
-
-pub pass_shut : PassPromise one_message one_filled worked_pass → ⊥
-unfolding run_shown pass_from pass_refusal
-pass_shut p = let d : ◌≡◌ {A = ℕ} 8192 full = ap (λ g. get_or g.memory slot_width 0) p in omega arith
-
--- the wrong answer reaches the row too: filters 10 and 30 are true of the message and filter 20 is not, where by the
--- match rule filter 20 alone is
-pub wrong_row : (g : Returned) → PassPromise one_message one_filled g → g.answers ≡ 0 ∷ 0 ∷ 5 ∷ []
-unfolding run_shown pass_from pass_refusal
-wrong_row g p = ap (λ h. h.answers) p
-
-pub worked_row : worked_pass.answers ≡ 0 ∷ 0 ∷ 2 ∷ []
-unfolding run_shown
-worked_row = refl

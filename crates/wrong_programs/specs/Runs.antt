@@ -14,7 +14,7 @@ use Rattle.rules.specs.Memory.{slot_width, Kept, Reply, ask}
 use Rattle.rules.specs.Pass.{Carried, join_text, pass_message}
 use Rattle.rules.specs.Run.{row_width, Lent, Returned, refused_run, run}
 use Rattle.rules.specs.Promise.{RunPromise}
-use Rattle.rules.specs.ASmallDay.Examples.{lending, run_shown, full, wrong_slot}
+use Rattle.rules.proofs.ASmallDay.Examples.{lending, run_shown, full, wrong_slot}
 use Rattle.rules.specs.ASmallDay as Small
 
 -- ── words ──
@@ -55,58 +55,28 @@ answers_by row = rows_by row (message_count day) ++ drop (row_width * message_co
 abbrev pub refusing : ℕ → Returned
 refusing e = refused_run small (suc e)
 
-pub refusing_shut : (e : ℕ) → RunPromise small (refusing e) → ⊥
-unfolding run_shown
-refusing_shut e p = let d : suc e ≡ 0 = ap (λ g. g.refusal) p in omega arith
-
 -- ── reporting one fixed set f of every message that is read, or no filter: demand 2; messages 1 and 2 have different
 -- ones, and neither has none ──
 abbrev pub fixed_set : ℕ → Returned
 fixed_set f = with_answers (answers_by (λ k. get_or right.answers (row_width * k) 0 ∷ get_or right.answers (row_width * k + 1) 0 ∷ pick (eqb (get_or right.answers (row_width * k) 0) 0) f 0 ∷ []))
 
-pub fixed_shut : (f : ℕ) → RunPromise small (fixed_set f) → ⊥
-unfolding run_shown
-fixed_shut f p =
-    let six : f ≡ 6 = ap (λ g. get_or g.answers 2 0) p in
-    let two : f ≡ 2 = ap (λ g. get_or g.answers 5 0) p in
-    omega arith
-
 abbrev pub no_filter : Returned
 no_filter = fixed_set 0
-
-pub no_filter_shut : RunPromise small no_filter → ⊥
-no_filter_shut = fixed_shut 0
 
 -- ── writing nothing: demand 2; of the answers lent message 1 would have refusal 9 ──
 abbrev pub writing_nothing : Returned
 writing_nothing = giving right.anew small.memory small.answers small.workspace
 
-pub nothing_shut : RunPromise small writing_nothing → ⊥
-unfolding run_shown
-nothing_shut p = let d : ◌≡◌ {A = ℕ} 9 0 = ap (λ g. get_or g.answers 0 0) p in omega arith
-
 -- ── matching the first message and copying its row: demand 2; message 2 has filter 20, not 20 and 30 ──
 abbrev pub first_copied : Returned
 first_copied = with_answers (answers_by (λ k. part right.answers 0 row_width))
-
-pub copied_shut : RunPromise small first_copied → ⊥
-unfolding run_shown
-copied_shut p = let d : ◌≡◌ {A = ℕ} 6 2 = ap (λ g. get_or g.answers 5 0) p in omega arith
 
 -- ── counting every question as anew, or none: demand 3; 4 of 5 are ──
 abbrev pub every_anew : Returned
 every_anew = with_anew right.asked
 
-pub every_shut : RunPromise small every_anew → ⊥
-unfolding run_shown
-every_shut p = let d : ◌≡◌ {A = ℕ} 5 4 = ap (λ g. g.anew) p in omega arith
-
 abbrev pub none_anew : Returned
 none_anew = with_anew 0
-
-pub none_anew_shut : RunPromise small none_anew → ⊥
-unfolding run_shown
-none_anew_shut p = let d : ◌≡◌ {A = ℕ} 0 4 = ap (λ g. g.anew) p in omega arith
 
 -- ── working every question out, and keeping and counting as if kept answers had been used ──
 abbrev pub working_out : List State → Question → Kept → Reply
@@ -118,15 +88,6 @@ wrong = record { memory = wrong_slot ++ replicate slot_width 7; anew = 0; filled
 
 abbrev pub empty_two : Question
 empty_two = record { states = no_states; label = 2 }
-
--- the inner call gives that answer, memory and counts as they were; worked out it is state 13 alone, STEP 2 to a TRUE
-pub wrong_comes_back : ask (states_of Small.book) empty_two wrong ≡ record { answer = replicate 8 full; kept = wrong }
-unfolding run_shown
-wrong_comes_back = refl
-
-pub worked_shut : working_out (states_of Small.book) empty_two wrong ≡ ask (states_of Small.book) empty_two wrong → ⊥
-unfolding run_shown
-worked_shut p = let d : ◌≡◌ {A = ℕ} 8192 full = ap (λ r. get_or r.answer 0 0) p in omega arith
 
 -- the pass, with every question worked out
 abbrev pub asking_worked_out : Meaning → Keeper (List ℕ) Carried
@@ -145,8 +106,3 @@ two_in_one = 1 ∷ 1 ∷ 0 ∷ 1 ∷ 2 ∷ 0 ∷ 3 ∷ 2 ∷ 0 ∷ 3 ∷ 1 ∷ 0
 
 abbrev pub from_wrong : Carried
 from_wrong = record { asked = 0; kept = wrong }
-
--- the next question, in slot 2, asks the set that the wrong answer made: the slot's first number tells the two apart
-pub pass_worked_shut : message (asking_worked_out (meaning_of Small.book)) two_in_one from_wrong ≡ pass_message (meaning_of Small.book) two_in_one from_wrong → ⊥
-unfolding run_shown
-pass_worked_shut p = let d : ◌≡◌ {A = ℕ} 8192 full = ap (λ o. get_or o.state.kept.memory slot_width 0) p in omega arith

@@ -1,4 +1,4 @@
-use Rattle.book_plan.specs.Plan.{plan_lent}
+use Rattle.book_plan.proofs.Plan.{plan_lent}
 use borrow.Author.Rules.{rules}
 use Rattle.day_pass_alone.proofs.pass_with.Statement.{statement}
 use Rattle.day_pass_alone.proofs.pass_with.Tie as tie

@@ -1,4 +1,4 @@
-use Rattle.rules.specs.Sets.Laws.{put_on, put_off}
+use Rattle.rules.proofs.Sets.Laws.{put_on, put_off}
 use borrow.Author.Rules.{rules}
 use Rattle.set_bits.proofs.put.Statement.{statement}
 use Rattle.set_bits.proofs.put.Tie as tie

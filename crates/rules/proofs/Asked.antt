@@ -1,0 +1,4 @@
+pub mod Laws
+pub mod Different
+pub mod Counts
+pub mod Examples

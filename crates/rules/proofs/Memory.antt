@@ -1,0 +1,4 @@
+pub mod Key
+pub mod Laws
+pub mod FirstC
+pub mod Examples

@@ -1,0 +1,6 @@
+pub mod Simulate
+pub mod Events
+pub mod Refusals
+pub mod Place
+pub mod Open
+pub mod Examples

@@ -1,0 +1,5 @@
+pub mod Beginnings
+pub mod Shape
+pub mod Laws
+pub mod Read
+pub mod Examples

@@ -1,0 +1,3 @@
+-- No promise allows what the wrong programs give.
+pub mod Runs
+pub mod Calls
