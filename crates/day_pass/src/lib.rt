@@ -7,10 +7,10 @@ ghost use Rattle.std.specs.Prelude.{◌≡◌, ◌+◌, ◌*◌, ◌≤◌, leng
 ghost use Rattle.rules.specs.DayFile.{message_count};
 ghost use Rattle.rules.specs.Run.{row_width, pass_day};
 ghost use Rattle.rules.specs.Promise.{lent};
-ghost use Rattle.memory_ask.specs.Ask.{carried};
+ghost use Rattle.memory_ask.specs.Ask.{carried_in};
 ghost use Rattle.memory_index.specs.Index.{Indexed};
 ghost use Rattle.day_pass.specs.Passing.{MessageReady, PassReady, MessageRead};
-ghost use Rattle.day_pass.specs.Passing.{MessageWritten, PassedUpTo, passed};
+ghost use Rattle.day_pass.specs.Passing.{MessageWritten, PassedUpTo, pass_returned};
 
 use memory_ask::Counts;
 
@@ -113,7 +113,8 @@ pub fn pass(
     from: Counts,
 ) -> Counts
     requires { PassReady book.now day.now plan.now index.old memory.old answers.old workspace.old from }
-    ensures { passed result memory answers workspace ≡ pass_day (lent book day memory answers workspace) (carried memory from) }
+    ensures { pass_returned result memory.new answers.new workspace.new
+        ≡ pass_day (lent book.now day.now memory.old answers.old workspace.old) (carried_in memory.old from) }
 {
     let c = all(book, day, plan, index, memory, answers, workspace, from);
     message_levels::clear(workspace);

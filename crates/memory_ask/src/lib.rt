@@ -14,7 +14,7 @@ ghost use Rattle.rules.specs.Pass.{ask_next};
 ghost use Rattle.book_plan.specs.Plan.{Planned, states_in};
 ghost use Rattle.memory_hash.specs.Hash.{Hashed};
 ghost use Rattle.memory_index.specs.Index.{Indexed};
-ghost use Rattle.memory_ask.specs.Ask.{carried, replied, CanAsk};
+ghost use Rattle.memory_ask.specs.Ask.{carried_in, replied, CanAsk};
 
 use memory_index::Found;
 
@@ -51,7 +51,8 @@ fn work_anew(
     requires can_ask { CanAsk plan.now index.old memory.old c }
     requires hashed { Hashed q.now h × (length answer.old ≡ set_width) }
     requires q_value { first_slot memory.old c.filled (question_in q.now) ≡ none }
-    ensures result_value { replied answer memory result ≡ ask_next (states_in plan.now) (question_in q.now) (carried memory c) }
+    ensures result_value { replied answer.new memory.new result
+        ≡ ask_next (states_in plan.now) (question_in q.now) (carried_in memory.old c) }
     ensures indexed { Indexed index.new memory.new result.filled }
 {
     let filled = c.filled;
@@ -77,7 +78,8 @@ pub fn ask(
 ) -> Counts
     requires can_ask { CanAsk plan.now index.old memory.old c }
     requires q_len { (length q.now ≡ question_width) × (length answer.old ≡ set_width) }
-    ensures result_value { replied answer memory result ≡ ask_next (states_in plan.now) (question_in q.now) (carried memory c) }
+    ensures result_value { replied answer.new memory.new result
+        ≡ ask_next (states_in plan.now) (question_in q.now) (carried_in memory.old c) }
     ensures indexed { Indexed index.new memory.new result.filled }
 {
     let filled = c.filled;

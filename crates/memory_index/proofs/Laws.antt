@@ -14,7 +14,7 @@ use Rattle.memory_hash.specs.Hash.{heads, hash_of, hash_small}
 use Rattle.memory_index.specs.declared.Found.{Found}
 use Rattle.memory_index.specs.declared.Found.TheVariants.{At, Nothing}
 use Rattle.memory_index.specs.Index.{index_room, meant, first_by, is_first, entered, index_of, Indexed}
-use Rattle.memory_index.specs.Chains.{enters, last_of, by_other, by_entered, last_first, last_le, last_enters, Chained, chained}
+use Rattle.memory_index.proofs.Chains.{enters, last_of, by_other, by_entered, last_first, last_le, last_enters, Chained, chained}
 
 -- ── the predicate ──
 pub indexed_chained : (x m : List ℕ) (n : ℕ) → Indexed x m n → Chained x m n
