@@ -15,7 +15,7 @@ ghost use Rattle.day_pass.specs.Passing.{MessageWritten, PassedUpTo, pass_return
 use memory_ask::Counts;
 
 // A message's answer numbers, and the counts after it.
-#[derive(Drop)]
+#[derive(Clone, Copy)]
 struct Row {
     refusal: u64,
     place: usize,
@@ -64,7 +64,7 @@ fn one(
     c: Counts,
 ) -> Counts
     requires message_ready { MessageReady book.now day.now k plan.now index.old memory.old workspace.old c }
-    requires row_width_in_bounds { row_width * k + row_width ≤ length answers.old }
+    requires row_lent { row_width * k + row_width ≤ length answers.old }
     ensures message_written { MessageWritten book.now day.now k memory.old answers.old workspace.old c
         result memory.new answers.new workspace.new }
     ensures indexed { Indexed index.new memory.new result.filled }

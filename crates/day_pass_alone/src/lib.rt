@@ -27,7 +27,7 @@ fn pass_with(
     from: Counts,
 ) -> Counts
     requires run_accepted { RunAccepted book.now day.now memory.old answers.old workspace.old from }
-    requires plan_room_in_bounds { (plan_room ≤ length plan.old) × (length index.old ≡ index_room) }
+    requires plan_lent { (plan_room ≤ length plan.old) × (length index.old ≡ index_room) }
     ensures { pass_returned result memory.new answers.new workspace.new
         ≡ pass_day (lent book.now day.now memory.old answers.old workspace.old) (carried_in memory.old from) }
 {

@@ -12,7 +12,7 @@ use memory_ask::Counts;
 
 // A run's refusal, 0 where it is not refused, and the counts asked, worked out anew and filled.
 #[repr(C)]
-#[derive(Drop)]
+#[derive(Clone, Copy)]
 pub struct Total {
     pub refusal: u64,
     pub asked: u64,

@@ -18,7 +18,7 @@ use memory_ask::Counts;
 
 // The refusal, and the counts for the next question; zero counts where the question is refused.
 #[repr(C)]
-#[derive(Drop)]
+#[derive(Clone, Copy)]
 pub struct Answered {
     pub refusal: u64,
     pub anew: u64,
