@@ -1,16 +1,14 @@
 -- Laws of a plan: each kind of state, read back; how many states it has; and what it means.
-use Rattle.std.specs.Prelude.{◌≡◌, List, ℕ, suc, ◌+◌, ◌-◌, ◌*◌, ◌/◌, ◌^◌, ◌<◌, ◌≤◌, eqb, length, get_or, take}
+use Rattle.std.specs.Prelude.{◌≡◌, List, ℕ, suc, ◌-◌, ◌<◌, ◌≤◌, length, get_or, take}
 use Rattle.std.proofs.Common.{ap, arith, ne_eqb}
 use Rattle.std.proofs.Math.Nat.{sub-zero}
 use Rattle.std.proofs.Math.Decide.{ℕ_discrete}
 use Rattle.lists.specs.Choice.{pick}
-use Rattle.lists.specs.Below.{up_to}
 use Rattle.lists.specs.Below.Laws.{up_to_long, up_to_at}
 use Rattle.rules.specs.Bytes.{signed4}
 use Rattle.rules.specs.State.{compares, State, TRUE, LEAF, AND, OR, NOT, STEP}
-use Rattle.rules.specs.Book.{most_states, relation_of, states_of, Meaning, meaning_of}
+use Rattle.rules.specs.Book.{relation_of, meaning_of}
 use Rattle.rules.specs.Value.{text_value}
-use Rattle.rules.specs.Leading.{Higher}
 use Rattle.rules.specs.Leading.{Inside}
 use Rattle.book_plan.specs.Plan.{plan_state, state_in, state_count, states_in, meaning_in, PlanOf}
 

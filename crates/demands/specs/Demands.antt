@@ -6,18 +6,16 @@
 --   in crate lists, specs/ Choice, Parts, Below, Checks, Same, Lending.
 -- Nothing in a folder behind one of these files need be believed, and nothing here after the last `=`: it is proof.
 -- tests/believed.py follows the names, and counts.
-use mathlib.Core.{Path.◌≡◌, Path.refl, Path.sym, Path.◌∙◌, Path.ap, Path.ap₂, Bool.Bool, Bool.true, Logic.◌↔◌, List.List, List.[], List.◌++◌}
+use mathlib.Core.{Path.◌≡◌, Bool.Bool, Bool.true, Logic.◌↔◌, List.List, List.[], List.◌++◌}
 use Rattle.std.specs.Prelude.{ℕ, ◌+◌, ◌*◌, ◌<◌, length, drop, replicate}
 use Rattle.lists.specs.Checks.{FirstToFail}
 use Rattle.rules.specs.{State.State, Book.filter_count, Book.states_before, Book.states_of, Book.Meaning, Book.meaning_of, DayFile.message_count, DayFile.message_body}
 use Rattle.rules.specs.{Tree.Content, Match.matches, Match.accepted_filters, Match.MatchRule, Message.Event, MessageTable.root_alone, MessageTable.opens_after, MessageTable.message_rows}
 use Rattle.rules.specs.{Written.written, Written.message_shaped, Written.AreBytes, Written.written_events, Written.IsMessage, Written.Begins, Written.Stuck}
 use Rattle.rules.specs.{Sets.bit_at, Sets.Question, Sets.either, Memory.slot_width, Memory.FirstToAsk, Memory.slot_answer, Memory.slots_written, Memory.Kept, Memory.ask}
-use Rattle.rules.specs.{Pass.Carried, Pass.asking, Pass.pass_to, Pass.pass_questions_to, Pass.after_asking, Run.row_width, Run.workspace_width, Run.Lent, Run.Returned, Run.run_checks, Run.run, Run.with_memory, Promise.RunPromise, Promise.one_run}
+use Rattle.rules.specs.{Pass.Carried, Pass.asking, Pass.pass_to, Pass.pass_questions_to, Pass.after_asking, Run.row_width, Run.workspace_width, Run.Lent, Run.Returned, Run.run_checks, Run.with_memory, Promise.RunPromise}
 use Rattle.rules.specs.{Asked.message_row, Asked.not_kept, Asked.HeldRight, Asked.nodes_to, Asked.day_nodes}
-use Rattle.rules.proofs.Pass.AnySlots.{pass_asks, pass_count}
-use Rattle.rules.specs.ASmallDay as Small
-use Rattle.demands.specs.Words.{MessageAnswered, row_of, refusal_of, place_for, filters_of, meaning, root_of, Permuted, C, questions, kept_questions, small_one, small_two, small_renamed}
+use Rattle.demands.specs.Words.{MessageAnswered, row_of, refusal_of, place_for, filters_of, meaning, root_of, Permuted, C, questions, kept_questions}
 
 -- ── demand 1 ──
 pub record Demand1 (l : Lent) (g : Returned) : Type 0 where

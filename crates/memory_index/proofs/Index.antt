@@ -1,14 +1,10 @@
 -- Which slots are entered, by computation.
-use Rattle.std.specs.Prelude.{◌≡◌, refl, Bool, true, false, List, [], ◌∷◌, map, ℕ, zero, suc, ◌+◌, ◌*◌, ◌≤◌, length, get_or, set, replicate}
-use Rattle.std.proofs.Math.Option.{Option, none, some}
+use Rattle.std.specs.Prelude.{◌≡◌, refl, true, false, [], ◌∷◌, map}
 use Rattle.lists.specs.Choice.{pick}
 use Rattle.lists.specs.Parts.{part}
 use Rattle.lists.specs.Same.{same_list}
-use Rattle.rules.specs.Memory.{slot_width, most_slots, question_in, slot_question, first_slot}
+use Rattle.rules.specs.Memory.{slot_question, first_slot}
 use Rattle.rules.proofs.Memory.Examples.{held}
-use Rattle.memory_hash.specs.Hash.{heads, hash_of}
-use Rattle.memory_index.specs.declared.Found.{Found}
-use Rattle.memory_index.specs.declared.Found.TheVariants.{At, Nothing}
 use Rattle.memory_index.specs.Index.{is_first}
 
 -- of four slots the last two ask one question: the third is its first

@@ -1,12 +1,9 @@
 -- The index over the filled slots, 12,288 numbers: 8,192 heads by a hash of the question, and then for each slot the one before it in its chain.
 -- Only the first slot that asks a question is entered, so the first hit of a chain is the first slot of all that asks it.
-use Rattle.std.specs.Prelude.{◌≡◌, refl, Bool, true, false, List, [], ◌∷◌, map, ℕ, zero, suc, ◌+◌, ◌*◌, ◌≤◌, length, get_or, set, replicate}
+use Rattle.std.specs.Prelude.{◌≡◌, Bool, true, false, List, ℕ, zero, suc, ◌+◌, ◌*◌, ◌≤◌, length, get_or, set, replicate}
 use Rattle.std.proofs.Math.Option.{Option, none, some}
 use Rattle.lists.specs.Choice.{pick}
-use Rattle.lists.specs.Parts.{part}
-use Rattle.lists.specs.Same.{same_list}
 use Rattle.rules.specs.Memory.{slot_width, most_slots, question_in, slot_question, first_slot}
-use Rattle.rules.proofs.Memory.Examples.{held}
 use Rattle.memory_hash.specs.Hash.{heads, hash_of}
 use Rattle.memory_index.specs.declared.Found.{Found}
 use Rattle.memory_index.specs.declared.Found.TheVariants.{At, Nothing}

@@ -1,16 +1,11 @@
 -- The same for the two other public calls that ask questions.
-use Rattle.std.specs.Prelude.{◌≡◌, refl, List, [], ◌∷◌, ℕ, get_or, replicate}
+use Rattle.std.specs.Prelude.{◌≡◌, refl, [], ◌∷◌, ℕ, get_or}
 use Rattle.std.proofs.Common.{ap, arith}
-use Rattle.rules.specs.Book.{states_of, meaning_of}
-use Rattle.rules.specs.Message.{Outcome, message}
-use Rattle.rules.specs.Memory.{slot_width, key_of}
-use Rattle.rules.specs.Pass.{Carried, answer_row}
-use Rattle.rules.specs.Run.{row_width, workspace_width, Lent, Returned}
+use Rattle.rules.specs.Memory.{slot_width}
+use Rattle.rules.specs.Run.{Returned}
 use Rattle.rules.proofs.ASmallDay.Examples.{run_shown, full}
-use Rattle.rules.specs.ASmallDay as Small
-use Rattle.rules.specs.Calls.{Counts, pass_refusal, pass_from, QuestionLent, QuestionReturned, question_refusal, answer_question}
+use Rattle.rules.specs.Calls.{pass_refusal, pass_from, question_refusal, answer_question}
 use Rattle.rules.specs.Promise.{PassPromise, QuestionPromise}
-use Rattle.wrong_programs.specs.Runs.{working_out, wrong, empty_two, asking_worked_out, two_in_one, from_wrong}
 use Rattle.wrong_programs.specs.Calls.{one_question, worked_reply, one_message, one_filled, worked_pass}
 
 pub reply_shut : QuestionPromise one_question worked_reply → ⊥

@@ -1,19 +1,13 @@
 -- That the run's promise does not allow what a wrong program gives, and the inner call and the pass not what one gives that works every
 -- question out.
-use Rattle.std.specs.Prelude.{◌≡◌, refl, List, [], ◌∷◌, ◌++◌, ℕ, zero, suc, ◌+◌, ◌*◌, eqb, get_or, drop, replicate}
+use Rattle.std.specs.Prelude.{◌≡◌, refl, ℕ, suc, get_or, replicate}
 use Rattle.std.proofs.Common.{ap, arith}
-use Rattle.lists.specs.Choice.{pick}
-use Rattle.lists.specs.Parts.{part}
-use Rattle.rules.specs.State.{State}
-use Rattle.rules.specs.Book.{states_of, Meaning, meaning_of, out_of_range}
-use Rattle.rules.specs.DayFile.{message_count}
-use Rattle.rules.specs.Message.{Keeper, message}
-use Rattle.rules.specs.Sets.{Question, no_states, either, work_out}
-use Rattle.rules.specs.Memory.{slot_width, Kept, Reply, ask}
-use Rattle.rules.specs.Pass.{Carried, join_text, pass_message}
-use Rattle.rules.specs.Run.{row_width, Lent, Returned, refused_run, run}
+use Rattle.rules.specs.Book.{states_of, meaning_of}
+use Rattle.rules.specs.Message.{message}
+use Rattle.rules.specs.Memory.{slot_width, ask}
+use Rattle.rules.specs.Pass.{pass_message}
 use Rattle.rules.specs.Promise.{RunPromise}
-use Rattle.rules.proofs.ASmallDay.Examples.{lending, run_shown, full, wrong_slot}
+use Rattle.rules.proofs.ASmallDay.Examples.{run_shown, full}
 use Rattle.rules.specs.ASmallDay as Small
 use Rattle.wrong_programs.specs.Runs.{small, refusing, fixed_set, no_filter, writing_nothing, first_copied, every_anew, none_anew, working_out, wrong, empty_two, asking_worked_out, two_in_one, from_wrong}
 

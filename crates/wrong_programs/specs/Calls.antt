@@ -1,16 +1,13 @@
 -- The same for the two other public calls that ask questions: a program that works every question out, where a slot
 -- that is filled holds a wrong answer.
-use Rattle.std.specs.Prelude.{◌≡◌, refl, List, [], ◌∷◌, ℕ, get_or, replicate}
-use Rattle.std.proofs.Common.{ap, arith}
+use Rattle.std.specs.Prelude.{List, ◌∷◌, ℕ, replicate}
 use Rattle.rules.specs.Book.{states_of, meaning_of}
 use Rattle.rules.specs.Message.{Outcome, message}
-use Rattle.rules.specs.Memory.{slot_width, key_of}
+use Rattle.rules.specs.Memory.{key_of}
 use Rattle.rules.specs.Pass.{Carried, answer_row}
 use Rattle.rules.specs.Run.{row_width, workspace_width, Lent, Returned}
-use Rattle.rules.proofs.ASmallDay.Examples.{run_shown, full}
 use Rattle.rules.specs.ASmallDay as Small
-use Rattle.rules.specs.Calls.{Counts, pass_refusal, pass_from, QuestionLent, QuestionReturned, question_refusal, answer_question}
-use Rattle.rules.specs.Promise.{PassPromise, QuestionPromise}
+use Rattle.rules.specs.Calls.{Counts, QuestionLent, QuestionReturned}
 use Rattle.wrong_programs.specs.Runs.{working_out, wrong, empty_two, asking_worked_out, two_in_one, from_wrong}
 
 -- ── the inner call ──

@@ -1,20 +1,18 @@
 -- Section "What has to be nailed to the definitions": what each wrong program gives for three messages of the small
 -- day, and that the run's promise does not allow it. All but the wrong part is as the run gives it, so it is this part
 -- that is refused.
-use Rattle.std.specs.Prelude.{◌≡◌, refl, List, [], ◌∷◌, ◌++◌, ℕ, zero, suc, ◌+◌, ◌*◌, eqb, get_or, drop, replicate}
-use Rattle.std.proofs.Common.{ap, arith}
+use Rattle.std.specs.Prelude.{List, [], ◌∷◌, ◌++◌, ℕ, zero, suc, ◌+◌, ◌*◌, eqb, get_or, drop, replicate}
 use Rattle.lists.specs.Choice.{pick}
 use Rattle.lists.specs.Parts.{part}
 use Rattle.rules.specs.State.{State}
-use Rattle.rules.specs.Book.{states_of, Meaning, meaning_of, out_of_range}
+use Rattle.rules.specs.Book.{Meaning, out_of_range}
 use Rattle.rules.specs.DayFile.{message_count}
-use Rattle.rules.specs.Message.{Keeper, message}
+use Rattle.rules.specs.Message.{Keeper}
 use Rattle.rules.specs.Sets.{Question, no_states, either, work_out}
 use Rattle.rules.specs.Memory.{slot_width, Kept, Reply, ask}
-use Rattle.rules.specs.Pass.{Carried, join_text, pass_message}
+use Rattle.rules.specs.Pass.{Carried, join_text}
 use Rattle.rules.specs.Run.{row_width, Lent, Returned, refused_run, run}
-use Rattle.rules.specs.Promise.{RunPromise}
-use Rattle.rules.proofs.ASmallDay.Examples.{lending, run_shown, full, wrong_slot}
+use Rattle.rules.proofs.ASmallDay.Examples.{lending, wrong_slot}
 use Rattle.rules.specs.ASmallDay as Small
 
 -- ── words ──

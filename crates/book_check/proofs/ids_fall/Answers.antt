@@ -1,7 +1,5 @@
 use borrow.Author.Rules.{rules}
-use Prim.Native.Nat.{◌-◌}
-use Rattle.lists.specs.Below.Searched.{Searched, searched_none}
-use Rattle.book_contents.specs.BookAccepted.{falls_at}
+use Rattle.lists.specs.Below.Searched.{searched_none}
 use Rattle.book_check.specs.Steps.{ids_next, ids_hit, ids_all}
 use Rattle.book_check.proofs.ids_fall.Goals as goal
 

@@ -1,7 +1,6 @@
 use Prim.Native.Nat.{◌-◌}
-use Rattle.lists.specs.Below.Searched.{Searched, searched_none}
+use Rattle.lists.specs.Below.Searched.{Searched}
 use Rattle.book_contents.specs.BookAccepted.{falls_at}
-use Rattle.book_check.specs.Steps.{ids_next, ids_hit, ids_all}
 use Rattle.book_check.proofs.ids_fall.Given as goal
 
 abbrev pub invariant-loop-k : goal.invariant-loop-k

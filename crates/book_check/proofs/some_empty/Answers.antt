@@ -1,7 +1,5 @@
 use borrow.Author.Rules.{rules}
-use Prim.Native.Nat.{◌-◌}
-use Rattle.lists.specs.Below.Searched.{Searched, searched_none}
-use Rattle.book_contents.specs.BookAccepted.{empty_at}
+use Rattle.lists.specs.Below.Searched.{searched_none}
 use Rattle.book_check.specs.Steps.{sizes_next, sizes_hit, sizes_all}
 use Rattle.book_check.proofs.some_empty.Goals as goal
 

@@ -1,7 +1,6 @@
 use Prim.Native.Nat.{◌-◌}
-use Rattle.lists.specs.Below.Searched.{Searched, searched_none}
+use Rattle.lists.specs.Below.Searched.{Searched}
 use Rattle.book_contents.specs.BookAccepted.{empty_at}
-use Rattle.book_check.specs.Steps.{sizes_next, sizes_hit, sizes_all}
 use Rattle.book_check.proofs.some_empty.Given as goal
 
 abbrev pub invariant-loop-k : goal.invariant-loop-k

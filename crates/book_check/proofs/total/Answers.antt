@@ -1,6 +1,5 @@
 use borrow.Author.Rules.{rules}
-use Prim.Native.Nat.{◌-◌}
-use Rattle.book_check.specs.Steps.{Summed, summed_none, summed_next, summed_all}
+use Rattle.book_check.specs.Steps.{summed_none, summed_next, summed_all}
 use Rattle.book_check.proofs.total.Goals as goal
 
 pub loop-k-init : goal.loop-k-init

@@ -1,5 +1,5 @@
 use Prim.Native.Nat.{◌-◌}
-use Rattle.book_check.specs.Steps.{Summed, summed_none, summed_next, summed_all}
+use Rattle.book_check.specs.Steps.{Summed}
 use Rattle.book_check.proofs.total.Given as goal
 
 abbrev pub invariant-loop-k : goal.invariant-loop-k

@@ -1,6 +1,6 @@
 use borrow.Author.Rules.{rules}
 use Rattle.book_contents.specs.BookAccepted.{table_inside}
-use Rattle.book_filter_body.specs.Found.{Looking, looking_none, looking_entry, looking_next, looking_hit, looking_all}
+use Rattle.book_filter_body.specs.Found.{looking_none, looking_entry, looking_next, looking_hit, looking_all}
 use Rattle.book_filter_body.proofs.look.Goals as goal
 
 pub filter_count-k-requires : goal.filter_count-k-requires

@@ -1,5 +1,4 @@
-use Rattle.book_contents.specs.BookAccepted.{table_inside}
-use Rattle.book_filter_body.specs.Found.{Looking, looking_none, looking_entry, looking_next, looking_hit, looking_all}
+use Rattle.book_filter_body.specs.Found.{Looking}
 use Rattle.book_filter_body.proofs.look.Given as goal
 
 abbrev pub invariant-loop-k : goal.invariant-loop-k

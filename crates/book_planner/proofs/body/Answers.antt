@@ -1,5 +1,4 @@
-use Prim.Native.Nat.{◌-◌, ◌≤◌}
-use Rattle.book_planner.specs.Make.{Body, body_laws, body_more}
+use Rattle.book_planner.specs.Make.{body_laws, body_more}
 use borrow.Author.Rules.{rules}
 use native.Mathlib.Omega.{arith}
 use Rattle.book_planner.proofs.body.Goals as goal

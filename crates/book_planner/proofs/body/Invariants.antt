@@ -1,6 +1,5 @@
 use Prim.Native.Nat.{◌-◌, ◌≤◌}
-use Rattle.book_planner.specs.Make.{Body, body_laws, body_more}
-use native.Mathlib.Omega.{arith}
+use Rattle.book_planner.specs.Make.{Body}
 use Rattle.book_planner.proofs.body.Given as goal
 
 abbrev pub invariant-loop-i : goal.invariant-loop-i

@@ -1,6 +1,5 @@
 use borrow.Author.Rules.{rules}
-use Prim.Native.Nat.{◌-◌}
-use Rattle.book_planner.specs.Make.{Making, make_laws}
+use Rattle.book_planner.specs.Make.{make_laws}
 use Rattle.book_planner.proofs.make.Goals as goal
 
 pub filter_count-f-requires : goal.filter_count-f-requires

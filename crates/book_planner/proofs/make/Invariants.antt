@@ -1,5 +1,5 @@
 use Prim.Native.Nat.{◌-◌}
-use Rattle.book_planner.specs.Make.{Making, make_laws}
+use Rattle.book_planner.specs.Make.{Making}
 use Rattle.book_planner.proofs.make.Given as goal
 
 abbrev pub invariant-loop-k : goal.invariant-loop-k

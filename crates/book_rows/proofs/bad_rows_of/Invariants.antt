@@ -1,6 +1,6 @@
 use Prim.Native.Nat.{◌-◌}
-use Rattle.lists.specs.Below.Searched.{Searched, searched_none, searched_next, searched_hit, searched_all}
-use Rattle.book_rows.specs.Rows.{no_row, no_row_at}
+use Rattle.lists.specs.Below.Searched.{Searched}
+use Rattle.book_rows.specs.Rows.{no_row}
 use Rattle.book_rows.proofs.bad_rows_of.Given as goal
 
 abbrev pub invariant-loop-i : goal.invariant-loop-i

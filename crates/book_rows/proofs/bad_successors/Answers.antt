@@ -1,7 +1,6 @@
 use borrow.Author.Rules.{rules}
-use Prim.Native.Nat.{◌-◌}
-use Rattle.lists.specs.Below.Searched.{Searched, searched_none, searched_next, searched_hit, searched_all}
-use Rattle.book_rows.specs.Rows.{astray, some_of, inside, body_is, bad_successors_is}
+use Rattle.lists.specs.Below.Searched.{searched_none, searched_next, searched_hit, searched_all}
+use Rattle.book_rows.specs.Rows.{inside, body_is, bad_successors_is}
 use Rattle.book_rows.proofs.bad_successors.Goals as goal
 
 pub loop-k-init : goal.loop-k-init

@@ -1,6 +1,6 @@
 use Prim.Native.Nat.{◌-◌}
-use Rattle.lists.specs.Below.Searched.{Searched, searched_none, searched_next, searched_hit, searched_all}
-use Rattle.book_rows.specs.Rows.{astray, some_of, inside, body_is, bad_successors_is}
+use Rattle.lists.specs.Below.Searched.{Searched}
+use Rattle.book_rows.specs.Rows.{astray, some_of}
 use Rattle.book_rows.proofs.bad_successors.Given as goal
 
 abbrev pub invariant-loop-k : goal.invariant-loop-k

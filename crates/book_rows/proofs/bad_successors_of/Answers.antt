@@ -1,7 +1,6 @@
 use borrow.Author.Rules.{rules}
-use Prim.Native.Nat.{◌-◌}
-use Rattle.lists.specs.Below.Searched.{Searched, searched_none, searched_next, searched_hit, searched_all}
-use Rattle.book_rows.specs.Rows.{astray, astray_at}
+use Rattle.lists.specs.Below.Searched.{searched_none, searched_next, searched_hit, searched_all}
+use Rattle.book_rows.specs.Rows.{astray_at}
 use Rattle.book_rows.proofs.bad_successors_of.Goals as goal
 
 pub loop-i-init : goal.loop-i-init

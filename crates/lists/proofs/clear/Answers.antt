@@ -1,7 +1,5 @@
-use Prim.Native.Nat.{◌-◌}
-use lib.ListN.{length}
 use borrow.Author.Rules.{rules}
-use Rattle.lists.specs.Parts.Clearing.{Clearing, clear_laws}
+use Rattle.lists.specs.Parts.Clearing.{clear_laws}
 use Rattle.lists.proofs.clear.Goals as goal
 
 pub loop-i-init : goal.loop-i-init

@@ -1,6 +1,6 @@
 use Prim.Native.Nat.{◌-◌}
 use lib.ListN.{length}
-use Rattle.lists.specs.Parts.Clearing.{Clearing, clear_laws}
+use Rattle.lists.specs.Parts.Clearing.{Clearing}
 use Rattle.lists.proofs.clear.Given as goal
 
 abbrev pub invariant-loop-i : goal.invariant-loop-i

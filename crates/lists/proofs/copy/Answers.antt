@@ -1,7 +1,5 @@
-use Prim.Native.Nat.{◌-◌}
-use lib.ListN.{length}
 use borrow.Author.Rules.{rules}
-use Rattle.lists.specs.Parts.Copying.{Copying, copying_none, copying_more, copying_all}
+use Rattle.lists.specs.Parts.Copying.{copying_none, copying_more, copying_all}
 use Rattle.lists.proofs.copy.Goals as goal
 
 pub loop-i-init : goal.loop-i-init

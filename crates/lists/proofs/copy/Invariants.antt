@@ -1,6 +1,6 @@
 use Prim.Native.Nat.{◌-◌}
 use lib.ListN.{length}
-use Rattle.lists.specs.Parts.Copying.{Copying, copying_none, copying_more, copying_all}
+use Rattle.lists.specs.Parts.Copying.{Copying}
 use Rattle.lists.proofs.copy.Given as goal
 
 abbrev pub invariant-loop-i : goal.invariant-loop-i

@@ -1,8 +1,6 @@
 use native.Mathlib.Omega.{arith}
-use Prim.Native.Nat.{◌-◌}
-use lib.ListN.{length}
 use borrow.Author.Rules.{rules}
-use Rattle.lists.specs.Same.Comparing.{Comparing, comparing_none, comparing_next, comparing_differs, comparing_all}
+use Rattle.lists.specs.Same.Comparing.{comparing_none, comparing_next, comparing_differs, comparing_all}
 use Rattle.lists.proofs.same.Goals as goal
 
 pub loop-i-init : goal.loop-i-init

@@ -1,7 +1,6 @@
-use native.Mathlib.Omega.{arith}
 use Prim.Native.Nat.{◌-◌}
 use lib.ListN.{length}
-use Rattle.lists.specs.Same.Comparing.{Comparing, comparing_none, comparing_next, comparing_differs, comparing_all}
+use Rattle.lists.specs.Same.Comparing.{Comparing}
 use Rattle.lists.proofs.same.Given as goal
 
 abbrev pub invariant-loop-i : goal.invariant-loop-i

@@ -1,6 +1,4 @@
-use Prim.Native.Nat.{◌-◌}
-use lib.ListN.{length}
-use Rattle.lists.specs.Parts.Clearing.{Clearing, clearing_none, clearing_more, clearing_all}
+use Rattle.lists.specs.Parts.Clearing.{clearing_none, clearing_more, clearing_all}
 use borrow.Author.Rules.{rules}
 use Rattle.memory_index.proofs.clear.Goals as goal
 

@@ -1,6 +1,6 @@
 use Prim.Native.Nat.{◌-◌}
 use lib.ListN.{length}
-use Rattle.lists.specs.Parts.Clearing.{Clearing, clearing_none, clearing_more, clearing_all}
+use Rattle.lists.specs.Parts.Clearing.{Clearing}
 use Rattle.memory_index.proofs.clear.Given as goal
 
 abbrev pub invariant-loop-i : goal.invariant-loop-i

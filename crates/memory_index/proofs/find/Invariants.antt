@@ -1,4 +1,4 @@
-use Rattle.memory_index.proofs.Laws.{Walking, walking_none, walking_here, walking_less, walking_next, walking_all}
+use Rattle.memory_index.proofs.Laws.{Walking}
 use Rattle.memory_index.proofs.find.Given as goal
 
 abbrev pub invariant-loop-p : goal.invariant-loop-p

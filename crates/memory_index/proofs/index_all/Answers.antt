@@ -1,5 +1,4 @@
-use Prim.Native.Nat.{◌-◌}
-use Rattle.memory_index.proofs.Laws.{Indexing, indexing_none, indexing_all}
+use Rattle.memory_index.proofs.Laws.{indexing_none, indexing_all}
 use borrow.Author.Rules.{rules}
 use Rattle.memory_index.proofs.index_all.Goals as goal
 

@@ -1,5 +1,5 @@
 use Prim.Native.Nat.{◌-◌}
-use Rattle.memory_index.proofs.Laws.{Indexing, indexing_none, indexing_all}
+use Rattle.memory_index.proofs.Laws.{Indexing}
 use Rattle.memory_index.proofs.index_all.Given as goal
 
 abbrev pub invariant-loop-i : goal.invariant-loop-i

@@ -1,6 +1,4 @@
-use Prim.Native.Nat.{◌-◌}
-use lib.ListN.{length}
-use Rattle.number_text.specs.Laws.{ReadingDigits, digit_laws}
+use Rattle.number_text.specs.Laws.{digit_laws}
 use borrow.Author.Rules.{rules}
 use Rattle.number_text.proofs.digits.Goals as goal
 

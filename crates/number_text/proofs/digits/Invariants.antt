@@ -1,6 +1,6 @@
 use Prim.Native.Nat.{◌-◌}
 use lib.ListN.{length}
-use Rattle.number_text.specs.Laws.{ReadingDigits, digit_laws}
+use Rattle.number_text.specs.Laws.{ReadingDigits}
 use Rattle.number_text.proofs.digits.Given as goal
 
 abbrev pub invariant-loop-i : goal.invariant-loop-i

@@ -1,4 +1,4 @@
-use Rattle.number_text.specs.Laws.{Ending, end_laws}
+use Rattle.number_text.specs.Laws.{end_laws}
 use borrow.Author.Rules.{rules}
 use Rattle.number_text.proofs.strip_end.Goals as goal
 

@@ -1,4 +1,4 @@
-use Rattle.number_text.specs.Laws.{Ending, end_laws}
+use Rattle.number_text.specs.Laws.{Ending}
 use Rattle.number_text.proofs.strip_end.Given as goal
 
 abbrev pub invariant-loop-e : goal.invariant-loop-e

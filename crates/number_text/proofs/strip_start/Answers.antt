@@ -1,6 +1,4 @@
-use Prim.Native.Nat.{◌-◌}
-use lib.ListN.{length}
-use Rattle.number_text.specs.Laws.{Starting, start_laws}
+use Rattle.number_text.specs.Laws.{start_laws}
 use borrow.Author.Rules.{rules}
 use Rattle.number_text.proofs.strip_start.Goals as goal
 

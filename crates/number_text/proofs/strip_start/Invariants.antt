@@ -1,6 +1,6 @@
 use Prim.Native.Nat.{◌-◌}
 use lib.ListN.{length}
-use Rattle.number_text.specs.Laws.{Starting, start_laws}
+use Rattle.number_text.specs.Laws.{Starting}
 use Rattle.number_text.proofs.strip_start.Given as goal
 
 abbrev pub invariant-loop-i : goal.invariant-loop-i

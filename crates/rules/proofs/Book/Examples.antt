@@ -1,7 +1,7 @@
 -- Filter books at both sides of each refusal, and the states of a book, proved by computation. Sections "Filter book"
 -- and "Refusal
 -- numbers", 1 to 7.
-use Rattle.std.specs.Prelude.{◌≡◌, refl, List, [], ◌∷◌, ◌++◌, map, ℕ, ◌*◌, ◌/◌, ◌%◌, pos, negsuc, length, take, drop, replicate}
+use Rattle.std.specs.Prelude.{◌≡◌, refl, List, [], ◌∷◌, ◌++◌, map, ℕ, ◌*◌, ◌/◌, ◌%◌, pos, negsuc, take, drop, replicate}
 use Rattle.lists.specs.Choice.{pick}
 use Rattle.lists.specs.Parts.{part}
 use Rattle.lists.specs.Below.{some_below, up_to}

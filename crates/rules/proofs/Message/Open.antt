@@ -8,7 +8,6 @@ use Prim.Native.Nat.{ℕ, suc, ◌+◌, ◌-◌, ◌<◌}
 use native.Mathlib.Omega.{arith}
 use Rattle.std.proofs.Math.Dec.{eqb-suc-zero}
 use Rattle.std.proofs.Math.ListN.{length, length-append}
-use Rattle.rules.specs.Run.{levels}
 use Rattle.rules.specs.Book.{Meaning, out_of_range}
 use Rattle.rules.specs.State.{label_limit, attribute}
 use Rattle.rules.specs.Tree.{Forest, childless, tree, Content, Node}

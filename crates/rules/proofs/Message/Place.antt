@@ -12,7 +12,7 @@ use Rattle.std.proofs.Math.Seq.{take-append_seam}
 use Rattle.lists.specs.Choice.{pick}
 use Rattle.rules.specs.Book.{Meaning}
 use Rattle.rules.specs.Tree.{childless, tree, Content, Node}
-use Rattle.rules.specs.Message.{Event, text, bad, first_event, Next, refused, on, begin, outcome, events, on_event, message}
+use Rattle.rules.specs.Message.{Event, bad, first_event, Next, refused, on, begin, outcome, events, on_event, message}
 use Rattle.rules.specs.Asked.{growing, read_tree}
 use Rattle.rules.specs.Written.{written, has_element, shaped, one_element, message_shaped, written_event, written_events, AreBytes, IsMessage, Begins, Stuck}
 use Rattle.rules.proofs.Message.Events.{size_of, Follows, events_follow, events_on, events_barred, events_broken, event_refused, first_kind}

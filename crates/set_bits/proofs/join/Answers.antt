@@ -1,6 +1,4 @@
-use Prim.Native.Nat.{◌-◌}
-use Rattle.rules.specs.Sets.{set_width}
-use Rattle.set_bits.specs.Join.{Joining, join_laws}
+use Rattle.set_bits.specs.Join.{join_laws}
 use borrow.Author.Rules.{rules}
 use Rattle.set_bits.proofs.join.Goals as goal
 

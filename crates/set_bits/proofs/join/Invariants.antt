@@ -1,6 +1,6 @@
 use Prim.Native.Nat.{◌-◌}
 use Rattle.rules.specs.Sets.{set_width}
-use Rattle.set_bits.specs.Join.{Joining, join_laws}
+use Rattle.set_bits.specs.Join.{Joining}
 use Rattle.set_bits.proofs.join.Given as goal
 
 abbrev pub invariant-loop-i : goal.invariant-loop-i

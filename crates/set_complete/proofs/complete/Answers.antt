@@ -1,4 +1,4 @@
-use Rattle.set_complete.specs.Completing.{Completing, complete_laws}
+use Rattle.set_complete.specs.Completing.{complete_laws}
 use borrow.Author.Rules.{rules}
 use Rattle.set_complete.proofs.complete.Goals as goal
 

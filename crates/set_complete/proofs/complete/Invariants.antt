@@ -1,4 +1,4 @@
-use Rattle.set_complete.specs.Completing.{Completing, complete_laws}
+use Rattle.set_complete.specs.Completing.{Completing}
 use Rattle.set_complete.proofs.complete.Given as goal
 
 abbrev pub invariant-loop-i : goal.invariant-loop-i

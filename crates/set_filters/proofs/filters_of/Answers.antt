@@ -1,5 +1,4 @@
-use Prim.Native.Nat.{◌-◌}
-use Rattle.set_filters.specs.Filters.{Rooting, root_laws}
+use Rattle.set_filters.specs.Filters.{root_laws}
 use borrow.Author.Rules.{rules}
 use Rattle.set_filters.proofs.filters_of.Goals as goal
 

@@ -1,5 +1,5 @@
 use Prim.Native.Nat.{◌-◌}
-use Rattle.set_filters.specs.Filters.{Rooting, root_laws}
+use Rattle.set_filters.specs.Filters.{Rooting}
 use Rattle.set_filters.proofs.filters_of.Given as goal
 
 abbrev pub invariant-loop-k : goal.invariant-loop-k

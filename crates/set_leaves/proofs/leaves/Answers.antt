@@ -1,8 +1,4 @@
-use Prim.Native.Nat.{◌-◌}
-use mathlib.Core.Path.{◌≡◌}
-use Rattle.number_text.specs.Meant.{meant}
-use Rattle.book_plan.specs.Plan.{state_count}
-use Rattle.set_leaves.specs.Leaves.{Leafing, leaves_laws}
+use Rattle.set_leaves.specs.Leaves.{leaves_laws}
 use borrow.Author.Rules.{rules}
 use Rattle.set_leaves.proofs.leaves.Goals as goal
 

@@ -2,7 +2,7 @@ use Prim.Native.Nat.{◌-◌}
 use mathlib.Core.Path.{◌≡◌}
 use Rattle.number_text.specs.Meant.{meant}
 use Rattle.book_plan.specs.Plan.{state_count}
-use Rattle.set_leaves.specs.Leaves.{Leafing, leaves_laws}
+use Rattle.set_leaves.specs.Leaves.{Leafing}
 use Rattle.set_leaves.proofs.leaves.Given as goal
 
 abbrev pub invariant-loop-i : goal.invariant-loop-i

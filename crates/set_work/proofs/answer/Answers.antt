@@ -1,7 +1,4 @@
-use Prim.Native.Nat.{◌-◌}
-use mathlib.Core.Path.{◌≡◌}
-use Rattle.book_plan.specs.Plan.{state_count}
-use Rattle.set_work.specs.Answering.{Answering, answer_laws}
+use Rattle.set_work.specs.Answering.{answer_laws}
 use borrow.Author.Rules.{rules}
 use Rattle.set_work.proofs.answer.Goals as goal
 

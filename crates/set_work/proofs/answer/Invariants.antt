@@ -1,7 +1,7 @@
 use Prim.Native.Nat.{◌-◌}
 use mathlib.Core.Path.{◌≡◌}
 use Rattle.book_plan.specs.Plan.{state_count}
-use Rattle.set_work.specs.Answering.{Answering, answer_laws}
+use Rattle.set_work.specs.Answering.{Answering}
 use Rattle.set_work.proofs.answer.Given as goal
 
 abbrev pub invariant-loop-i : goal.invariant-loop-i
