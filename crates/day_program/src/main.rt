@@ -22,23 +22,13 @@ const SLOTS: usize = 64;
 
 const MESSAGES: usize = 1024;
 
-// Reads into the front of buf: how many bytes, 0 at the end of the file and where the read fails.
-fn read_some(file: &mut impl Read, buf: &mut [u8]) -> usize
-    ensures { result ≤ length buf.new }
-{
-    match file.read(buf) {
-        Ok(n) => n,
-        Err(_) => 0,
-    }
-}
-
 // Reads into the front of buf until it is full, the file ends or a read fails: how many bytes.
 fn read_full(file: &mut impl Read, buf: &mut [u8]) -> usize
     ensures { result ≤ length buf.new }
 {
     let mut done = 0;
     while done < buf.len() {
-        let n = read_some(file, &mut buf[done..]);
+        let n = file.read(&mut buf[done..]).unwrap_or(0);
         if n == 0 {
             break;
         }
@@ -47,8 +37,8 @@ fn read_full(file: &mut impl Read, buf: &mut [u8]) -> usize
     done
 }
 
-// Reads a file into the front of buf: how many bytes, 0 where it is missing.
-fn load<R: Files>(rt: &R, path: &str, buf: &mut [u8]) -> usize
+// Reads a file into the front of buf: how many bytes, 0 where it is missing or can't be opened.
+fn load(rt: &impl Files, path: &str, buf: &mut [u8]) -> usize
     ensures { result ≤ length buf.new }
 {
     match File::open(rt, path) {
