@@ -54,14 +54,14 @@ def promised(crate, name, promise):
         yield "%s: has a `requires`, and a public call refuses instead" % call
     if words.count("ensures") != 1:
         yield "%s: has %d `ensures`, and its promise is one" % (call, words.count("ensures"))
-    says = re.search(r"ensures \{ λ \w+\. ⌜\s*%s\b([^→↔×⊎⌜⌝]*)⌝ \}" % promise, words)
+    says = re.search(r"ensures (?:\w+ )?\{\s*%s\b([^→↔×⊎{}]*)\}" % promise, words)
     if not says:
         yield "%s: its `ensures` is not its promise, %s, and that alone" % (call, promise)
         return
-    for word in re.findall(r"(\w+):", parameters):
+    for word in re.findall(r"(\w+):", parameters) + ["result"]:
         if not re.search(r"\b%s\b" % word, says.group(1)):
             yield "%s: its promise does not speak of %s" % (call, word)
-    from_page = re.findall(r"^ghost use Rattle·rules\.specs\.Promise\.\{([^}]*)\}", read("crates/%s/src/lib.rt" % crate), re.M)
+    from_page = re.findall(r"^ghost use Rattle\.rules\.specs\.Promise\.\{([^}]*)\}", read("crates/%s/src/lib.rt" % crate), re.M)
     if promise not in re.split(r",\s*", ",".join(from_page)):
         yield "%s: %s is not that of rules/specs/Promise.antt" % (call, promise)
 
