@@ -36,8 +36,8 @@ NOTATION = {
                         "bytes 01 ff", r"\xHH", "STEP service -> 1", "start @day"},
     "docs/ARCHITECTURE.md": {"day_tally"},  # a crate of a later request
     "docs/DECISIONS.md": {"endian"},  # a name that was not taken
-    "docs/HELP.md": {"λ r. ..", "f x y", "f (g x) y", "was x", "left x", "now x", "lent ..", "returned ..", "a ≡ b", "A × B",
-                     "A → B", "A ↔ B", "A → ⊥", "(n : ℕ) → A", "x .field", "a ∷ s", "s ++ t"},
+    "docs/HELP.md": {"{ .. }", "f x y", "f (g x) y", "was x", "left x", "x.now", "x.old", "x.new", "lent ..", "returned ..", "a ≡ b",
+                     "A × B", "A → B", "A ↔ B", "A → ⊥", "(n : ℕ) → A", "x.field", "a ∷ s", "s ++ t", "get_or s i 0", "cpu="},
     "docs/RULES.md": {"OR 1 2",  # what follows is XPath
                       "//late", "//@day", "/service[call]", "/service[@day]/call/late", "/service/@day = 6", "/service[@day = 6]",
                       "not(/service/call)", "/service[not(call)]", "/service/call/late > 5 or not(/service/@day)",
