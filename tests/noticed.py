@@ -31,7 +31,7 @@ import tempfile
 import threading
 
 TOP = os.path.dirname(os.path.dirname(os.path.abspath(__file__)))
-LIBRARY = "target/staticlib/libexported.a"
+LIBRARY = "crates/exported/out/libexported.a"
 LEFT_OUT = (".git", "target", "__pycache__")
 READS_TARGET = re.compile(r"LIBRARY|bench/run|tests/(?:assumed|commands|edits|figures|quotes)\.py")
 copies = threading.local()
