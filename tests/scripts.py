@@ -38,7 +38,7 @@ int main(int count, char **words) {
 }
 RT = r"""#!/usr/bin/env bash
 top=$(dirname "$0")/../room
-echo "$1" >>"$top/calls"
+echo "$*" >>"$top/calls"
 case $1 in
 lib)
   [ "$PWD" -ef "$top/crates/exported" ] || exit 9
@@ -51,7 +51,7 @@ lib)
   mkdir -p out
   printf '!<arch>\n' >out/libexported.a ;;
 ci)
-  [ "$PWD" -ef "$top" ] && [ $# -eq 1 ] || exit 9
+  [ "$PWD" -ef "$top" ] || exit 9
   flock -n "$top" true && echo free >>"$top/calls"
   setsid sleep 60 >/dev/null 2>&1 &
   echo $! >"$top/sleeper"
@@ -100,7 +100,7 @@ class Room:
         return process.returncode, out, err
 
     def calls(self):
-        return open(self.at("calls")).read().split() if os.path.exists(self.at("calls")) else []
+        return open(self.at("calls"), encoding="utf-8").read().splitlines() if os.path.exists(self.at("calls")) else []
 
     def newer(self, name, than):
         """Gives a file a time right behind another's."""
