@@ -1,8 +1,8 @@
 #!/usr/bin/env python3
 """Checks that no library rests on an assumption, and that a program rests on those of the kit's C functions alone.
 
-assumed.py [FOLDER]     reads what `rt ci` said, and `rt lib` in crates/exported, in the files of target/log; what those of FOLDER say of a
-                        crate stands in for that
+assumed.py [FOLDER]     reads what `rt ci` said, and `rt lib` in crates/exported, in target/ci.log and target/library.log; what the files of
+                        FOLDER say of a crate stands in for that
 
 Each form of an assumption was tried on a crate, and this is what the toolchain does with it:
 
@@ -28,8 +28,10 @@ import sys
 
 from house import TOP, end_if_wrong, listed, named, read, under
 
+LOGS = ["target/ci.log", "target/library.log"]
 STATIC = "exported"  # the library that other languages link
-HANDLES = r"\b(?:std|core)::|\b(?:HostRuntime|Global|Alloc|AllocGlobal|Files|Input|Print|Env|Clock)\b"
+HANDLES = ["HostRuntime", "Alloc", "AllocGlobal", "Global", "Files", "Input", "Print"]
+OWN_PATHS = {"crate", "self", "super", "bool", "char", "u8", "u16", "u32", "u64", "u128", "usize", "i8", "i16", "i32", "i64", "i128", "isize"}
 C_CODE = {"libc", "os"}
 KIT = {"core", "io", "libc", "os", "std", "std_alloc", "std_collections", "std_heap", "std_io"}
 PROVED = re.compile(r"(?:fn|struct|enum) (\S+): (.*)")
@@ -77,10 +79,10 @@ def blocks(path):
             crate, by_ci, lines = None, False, []
 
 
-def said(folder):
-    """What the logs of a folder say: blocks of lines, crate by crate, and the crates that an earlier run proved."""
+def said(logs):
+    """What the logs say: blocks of lines, crate by crate, and the crates that an earlier run proved."""
     found, kept = {}, set()
-    for path in sorted(glob.glob(os.path.join(TOP, folder, "*"))):
+    for path in filter(os.path.isfile, logs):
         for crate, by_ci, lines in blocks(path):
             found.setdefault(crate, []).append((by_ci, lines))
         kept |= {match.group(1) for match in map(KEPT.match, open(path, encoding="utf-8", errors="replace")) if match}
@@ -129,10 +131,10 @@ def named_amiss(crate, ways, crates):
     for name in sorted(set(ways) - set(crates)):
         yield "%s, a library, reaches %s: %s" % (crate, name, ", ".join(ways[name]))
     for path in under("crates/%s/src" % crate, ".rt"):
-        for number, line in enumerate(re.sub(r"//.*", "", read(path)).split("\n"), 1):
-            word = re.search(HANDLES, re.sub(r"^\s*ghost use .*|\bRattle[.\w]*", "", line))
-            if word:
-                yield "%s, a library, names %s: %s:%d" % (crate, word.group(0).rstrip(":"), path, number)
+        for number, line in enumerate(re.sub(r"//.*|^ghost use [^;]*;", "", read(path), flags=re.M).split("\n"), 1):
+            paths = re.findall(r"(?<![\w:])([a-z]\w*)::", line)
+            for word in [word for word in paths if word not in OWN_PATHS | set(crates)] + re.findall(r"\b(?:%s)\b" % "|".join(HANDLES), line):
+                yield "%s, a library, names %s: %s:%d" % (crate, word, path, number)
 
 
 def amiss(crate, leads, found, kept):
@@ -154,9 +156,9 @@ def main():
         sys.exit(__doc__)
     crates = listed()
     leads = {crate: set(words) | named(crate, crates) for crate, words in crates.items()}
-    found, kept = said("target/log")
+    found, kept = said(os.path.join(TOP, path) for path in LOGS)
     if sys.argv[1:]:
-        found.update(said(sys.argv[1])[0])
+        found.update(said(sorted(glob.glob(os.path.join(TOP, sys.argv[1], "*"))))[0])
     wrong = [line for crate in crates for line in amiss(crate, leads, found, kept)]
     libraries = sum(map(is_library, crates))
     end_if_wrong("assumed", wrong if libraries else ["no library is listed"])
