@@ -114,15 +114,16 @@ def lines_amiss(crate, lines):
             yield "%s: the prover said '%s'" % (crate, line[:100])
 
 
-def loaded_amiss(crate, lines, ways):
-    """Whether the prover loaded C code for a library, or other crates than the crate reaches."""
+def loaded_amiss(crate, lines, ways, crates):
+    """Whether the prover loaded C code for a library, or other crates than the crate reaches; a program may use what the kit has, too."""
     loaded = {match.group(2): int(match.group(3)) for match in map(LOADED.fullmatch, lines) if match}
     for name in sorted(C_CODE) if is_library(crate) else []:
         if loaded.get(name):
             yield "%s, a library: the prover loaded %d modules of %s" % (crate, loaded[name], name)
     for name in sorted(set(loaded) - KIT - set(ways)):
-        yield "%s: the prover was handed %s, which it does not reach" % (crate, name)
-    for name in sorted(set(ways) - KIT - set(loaded)):
+        if is_library(crate) or name in crates:
+            yield "%s: the prover was handed %s, which it does not reach" % (crate, name)
+    for name in sorted(set(ways) & set(crates) - set(loaded)):
         yield "%s: the prover was not handed %s" % (crate, name)
 
 
@@ -131,7 +132,8 @@ def named_amiss(crate, ways, crates):
     for name in sorted(set(ways) - set(crates)):
         yield "%s, a library, reaches %s: %s" % (crate, name, ", ".join(ways[name]))
     for path in under("crates/%s/src" % crate, ".rt"):
-        for number, line in enumerate(re.sub(r"//.*|^ghost use [^;]*;", "", read(path), flags=re.M).split("\n"), 1):
+        code = re.sub(r"//.*|^ghost use [^;]*;", lambda found: "\n" * found.group(0).count("\n"), read(path), flags=re.M)
+        for number, line in enumerate(code.split("\n"), 1):
             paths = re.findall(r"(?<![\w:])([a-z]\w*)::", line)
             for word in [word for word in paths if word not in OWN_PATHS | set(crates)] + re.findall(r"\b(?:%s)\b" % "|".join(HANDLES), line):
                 yield "%s, a library, names %s: %s:%d" % (crate, word, path, number)
@@ -146,7 +148,7 @@ def amiss(crate, leads, found, kept):
     for by_ci, lines in found.get(crate, []):
         yield from lines_amiss(crate, lines)
         yield from words_amiss(crate, lines[-1], by_ci)
-        yield from loaded_amiss(crate, lines, ways)
+        yield from loaded_amiss(crate, lines, ways, listed())
     if crate == STATIC and not any("target=" in lines[-1] for _, lines in found.get(crate, [])):
         yield "%s: no last line is of the static library; rt lib, in crates/%s, makes it" % (crate, crate)
 
