@@ -11,7 +11,7 @@ ghost use Rattle.rules.specs.Promise.{BodyPromise, PartPromise};
 ghost use Rattle.book_filter_body.specs.Found.{part_in};
 
 #[repr(C)]
-#[derive(Drop)]
+#[derive(Clone, Copy)]
 pub struct Part {
     pub start: usize,
     pub length: usize,

@@ -42,10 +42,10 @@ fn write(plan: &mut [u64], k: usize, kind: u64, x: u64, y: u64)
 
 // State k of the plan, from the 8 bytes at a place of a body whose state 0 is number base of the book.
 fn row(book: &[u8], at: usize, base: usize, k: usize, plan: &mut [u64])
-    requires state_width_in_bounds { (at + state_width ≤ length book.now) × (base ≤ most_states) }
-    requires plan_width_in_bounds { plan_width * k + plan_width ≤ length plan.old }
-    ensures plan_value { plan.new ≡ row_in book.now at base k plan.old }
-    ensures k_bound { get_or plan.new (plan_width * k + 2) 0 < 2 ^ 32 }
+    requires state_lent { (at + state_width ≤ length book.now) × (base ≤ most_states) }
+    requires row_lent { plan_width * k + plan_width ≤ length plan.old }
+    ensures row_written { plan.new ≡ row_in book.now at base k plan.old }
+    ensures third_small { get_or plan.new (plan_width * k + 2) 0 < 2 ^ 32 }
 {
     let kind = number_bytes::byte(book, at);
     let one = number_bytes::byte(book, at + 1);
@@ -58,8 +58,8 @@ fn row(book: &[u8], at: usize, base: usize, k: usize, plan: &mut [u64])
 }
 
 fn body(book: &[u8], at: usize, base: usize, n: usize, plan: &mut [u64])
-    requires n_in_bounds { (at + state_width * n ≤ length book.now) × (base + n ≤ most_states) }
-    requires plan_room_in_bounds { plan_room ≤ length plan.old }
+    requires states_lent { (at + state_width * n ≤ length book.now) × (base + n ≤ most_states) }
+    requires plan_lent { plan_room ≤ length plan.old }
     ensures { Body book.now at base plan.old plan.new n }
 {
     let mut i = 0;

@@ -7,8 +7,6 @@ use Prim.Native.Nat.{ℕ, suc, ◌+◌, ◌-◌, ◌*◌, ◌<◌, ◌≤◌}
 use native.Mathlib.Omega.{arith}
 use Rattle.std.proofs.Math.Decide.{ℕ_discrete}
 use Rattle.std.proofs.Math.ListN.{drop}
-use Rattle.std.specs.Borrow.{Bor}
-use denote.Triple.Both.{Both}
 use Rattle.lists.specs.Choice.{pick}
 use Rattle.lists.specs.Parts.{patch}
 use Rattle.rules.specs.Book.{book_refusal, states_of, meaning_of}
@@ -31,7 +29,6 @@ use Rattle.day_pass.specs.declared.Row.{Row}
 use Rattle.memory_ask.specs.Ask.{carried_in, count_most}
 use Rattle.message_levels.specs.Level.{set_at}
 use Rattle.day_row.specs.Row.{root_filters}
-use Rattle.lists.specs.Lending.{left}
 
 abbrev pub lent_of : List ℕ → List ℕ → List ℕ → List ℕ → List ℕ → Lent
 lent_of book day memory answers workspace = record { book = book; day = day; memory = memory; answers = answers; workspace = workspace }
@@ -40,10 +37,6 @@ lent_of book day memory answers workspace = record { book = book; day = day; mem
 abbrev pub pass_returned : Counts → List ℕ → List ℕ → List ℕ → Returned
 pass_returned c memory answers workspace =
     record { refusal = 0; asked = c.asked; anew = c.anew; filled = c.filled; memory = memory; answers = answers; workspace = workspace }
-
--- the same of the slices of a call, for its promise
-abbrev pub passed : {A B C : Type 0} → Counts → Both A (Bor (List ℕ)) → Both B (Bor (List ℕ)) → Both C (Bor (List ℕ)) → Returned
-passed c memory answers workspace = pass_returned c (left memory) (left answers) (left workspace)
 
 -- ── what a call is lent ──
 -- an accepted book and its plan, an accepted day file and one of its messages, the levels, the index of the filled slots,

@@ -7,15 +7,15 @@ ghost use Rattle.std.specs.Prelude.{◌≡◌, ◌+◌, ◌*◌, ◌≤◌, leng
 ghost use Rattle.rules.specs.DayFile.{message_count};
 ghost use Rattle.rules.specs.Run.{row_width, pass_day};
 ghost use Rattle.rules.specs.Promise.{lent};
-ghost use Rattle.memory_ask.specs.Ask.{carried};
+ghost use Rattle.memory_ask.specs.Ask.{carried_in};
 ghost use Rattle.memory_index.specs.Index.{Indexed};
 ghost use Rattle.day_pass.specs.Passing.{MessageReady, PassReady, MessageRead};
-ghost use Rattle.day_pass.specs.Passing.{MessageWritten, PassedUpTo, passed};
+ghost use Rattle.day_pass.specs.Passing.{MessageWritten, PassedUpTo, pass_returned};
 
 use memory_ask::Counts;
 
 // A message's answer numbers, and the counts after it.
-#[derive(Drop)]
+#[derive(Clone, Copy)]
 struct Row {
     refusal: u64,
     place: usize,
@@ -64,7 +64,7 @@ fn one(
     c: Counts,
 ) -> Counts
     requires message_ready { MessageReady book.now day.now k plan.now index.old memory.old workspace.old c }
-    requires row_width_in_bounds { row_width * k + row_width ≤ length answers.old }
+    requires row_lent { row_width * k + row_width ≤ length answers.old }
     ensures message_written { MessageWritten book.now day.now k memory.old answers.old workspace.old c
         result memory.new answers.new workspace.new }
     ensures indexed { Indexed index.new memory.new result.filled }
@@ -113,7 +113,8 @@ pub fn pass(
     from: Counts,
 ) -> Counts
     requires { PassReady book.now day.now plan.now index.old memory.old answers.old workspace.old from }
-    ensures { passed result memory answers workspace ≡ pass_day (lent book day memory answers workspace) (carried memory from) }
+    ensures { pass_returned result memory.new answers.new workspace.new
+        ≡ pass_day (lent book.now day.now memory.old answers.old workspace.old) (carried_in memory.old from) }
 {
     let c = all(book, day, plan, index, memory, answers, workspace, from);
     message_levels::clear(workspace);

@@ -8,8 +8,8 @@ ghost use Rattle.rules.specs.Run.{pass_day};
 ghost use Rattle.rules.specs.Promise.{lent};
 ghost use Rattle.book_plan.specs.Plan.{plan_room};
 ghost use Rattle.memory_index.specs.Index.{index_room};
-ghost use Rattle.memory_ask.specs.Ask.{carried};
-ghost use Rattle.day_pass.specs.Passing.{passed};
+ghost use Rattle.memory_ask.specs.Ask.{carried_in};
+ghost use Rattle.day_pass.specs.Passing.{pass_returned};
 ghost use Rattle.day_pass_alone.specs.RunAccepted.{RunAccepted};
 
 use memory_ask::Counts;
@@ -27,8 +27,9 @@ fn pass_with(
     from: Counts,
 ) -> Counts
     requires run_accepted { RunAccepted book.now day.now memory.old answers.old workspace.old from }
-    requires plan_room_in_bounds { (plan_room ≤ length plan.old) × (length index.old ≡ index_room) }
-    ensures { passed result memory answers workspace ≡ pass_day (lent book day memory answers workspace) (carried memory from) }
+    requires plan_lent { (plan_room ≤ length plan.old) × (length index.old ≡ index_room) }
+    ensures { pass_returned result memory.new answers.new workspace.new
+        ≡ pass_day (lent book.now day.now memory.old answers.old workspace.old) (carried_in memory.old from) }
 {
     let long = book_planner::make(book, plan);
     let filled = from.filled;
@@ -55,7 +56,8 @@ pub fn pass_alone(
     from: Counts,
 ) -> Counts
     requires { RunAccepted book.now day.now memory.old answers.old workspace.old from }
-    ensures { passed result memory answers workspace ≡ pass_day (lent book day memory answers workspace) (carried memory from) }
+    ensures { pass_returned result memory.new answers.new workspace.new
+        ≡ pass_day (lent book.now day.now memory.old answers.old workspace.old) (carried_in memory.old from) }
 {
     let mut plan = [0u64; book_plan::ROOM];
     let mut index = [0u16; memory_index::ROOM];

@@ -19,7 +19,7 @@ pub fn run_refusal(
     answers: &[u64],
     workspace: &[u64],
 ) -> u64
-    ensures { result ≡ run_refusal (lent book day memory answers workspace) }
+    ensures { result ≡ run_refusal (lent book.now day.now memory.now answers.now workspace.now) }
 {
     let in_book = book_check::check_book(book);
     if in_book != 0 {
@@ -47,7 +47,7 @@ pub fn pass_refusal(
     workspace: &[u64],
     from: Counts,
 ) -> u64
-    ensures { result ≡ pass_refusal (lent book day memory answers workspace) (counts_of from) }
+    ensures { result ≡ pass_refusal (lent book.now day.now memory.now answers.now workspace.now) (counts_of from) }
 {
     let no = run_refusal(book, day, memory, answers, workspace);
     if no != 0 {

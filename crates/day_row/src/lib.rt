@@ -15,9 +15,9 @@ pub const ROW: usize = 3;
 
 // The filters of a message that is read, by the root's set in level 0; a refused message matches none.
 pub fn root_filters(book: &[u8], plan: &[u64], workspace: &[u64], refusal: u64) -> u64
-    requires book_value { book_refusal book.now ≡ 0 }
+    requires accepted { book_refusal book.now ≡ 0 }
     requires plan_of { PlanOf plan.now book.now }
-    requires workspace_width_in_bounds { workspace_width ≤ length workspace.now }
+    requires levels_lent { workspace_width ≤ length workspace.now }
     ensures { result ≡ root_filters book.now workspace.now refusal }
 {
     if refusal == 0 {

@@ -18,7 +18,7 @@ use Rattle.day_pass.specs.Passing.{lent_of, pass_returned}
 use Rattle.day_pass_alone.specs.RunAccepted.{RunAccepted}
 use Rattle.day_refusals.specs.Laws.{refused_book, refused_day, past_files, from_run, past_run}
 use Rattle.day_run.specs.declared.Total.{Total}
-use Rattle.day_run.specs.Calls.{total_returned}
+use Rattle.day_run.specs.Calls.{returned}
 
 module _ (l : Lent) where
   -- ── what is not refused ──
@@ -64,17 +64,17 @@ module _ (book day memory answers ws : List ℕ) where
     run_accepts z = accepted_with (record { asked = 0; anew = 0; filled = 0 }) (sym told ∙ z) (omega arith) (omega arith) (omega arith)
 
     pub run_refuses : (t : Total) → t ≡ record { refusal = n; asked = 0; anew = 0; filled = 0 } → (n ≡ 0 → ⊥) →
-        total_returned t memory answers ws ≡ run (lent_of book day memory answers ws)
+        returned t memory answers ws ≡ run (lent_of book day memory answers ws)
     run_refuses t i h = rw i (go n told h)
       where
         go : (k : ℕ) → k ≡ run_refusal (lent_of book day memory answers ws) → (k ≡ 0 → ⊥) →
-            total_returned (record { refusal = k; asked = 0; anew = 0; filled = 0 }) memory answers ws ≡ run (lent_of book day memory answers ws)
+            returned (record { refusal = k; asked = 0; anew = 0; filled = 0 }) memory answers ws ≡ run (lent_of book day memory answers ws)
         go zero e f = absurd (f refl)
         go (suc k) e f = sym (run_refused (lent_of book day memory answers ws) k (sym e))
 
     pub run_passes : (c : Counts) (t : Total) (m a w : List ℕ) → n ≡ 0 → t ≡ record { refusal = 0; asked = c.asked; anew = c.anew; filled = c.filled } →
         pass_returned c m a w ≡ pass_day (lent_of book day memory answers ws) (carried_in memory (record { asked = 0; anew = 0; filled = 0 })) →
-        total_returned t m a w ≡ run (lent_of book day memory answers ws)
+        returned t m a w ≡ run (lent_of book day memory answers ws)
     run_passes c t m a w z i e = rw i (e ∙ sym (run_accepted (lent_of book day memory answers ws) (sym told ∙ z)))
 
   -- ── the pass from filled slots ──
@@ -104,11 +104,11 @@ module _ (book day memory answers ws : List ℕ) where
           accepted_with begun (run_passed z) (ltb-false _ _ one.0) (leb-false _ _ many.0) (leb-false _ _ many.1)
 
       pub from_refuses : (t : Total) → t ≡ record { refusal = n; asked = 0; anew = 0; filled = 0 } → (n ≡ 0 → ⊥) →
-          total_returned t memory answers ws ≡ pass_from lent from
+          returned t memory answers ws ≡ pass_from lent from
       unfolding pass_from
       from_refuses t i h = rw i (ap (refused_run lent) told ∙ sym (pick_false _ _ _ (ne_eqb _ _ (λ e. h (told ∙ e)))))
 
       pub from_passes : (r : Counts) (t : Total) (m a w : List ℕ) → n ≡ 0 → t ≡ record { refusal = 0; asked = r.asked; anew = r.anew; filled = r.filled } →
-          pass_returned r m a w ≡ pass_day lent (carried_in memory begun) → total_returned t m a w ≡ pass_from lent from
+          pass_returned r m a w ≡ pass_day lent (carried_in memory begun) → returned t m a w ≡ pass_from lent from
       unfolding pass_from
       from_passes r t m a w z i e = rw i (e ∙ sym (pick_true _ _ _ (eq-eqb _ _ (sym told ∙ z))))

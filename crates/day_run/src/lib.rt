@@ -12,7 +12,7 @@ use memory_ask::Counts;
 
 // A run's refusal, 0 where it is not refused, and the counts asked, worked out anew and filled.
 #[repr(C)]
-#[derive(Drop)]
+#[derive(Clone, Copy)]
 pub struct Total {
     pub refusal: u64,
     pub asked: u64,
@@ -52,7 +52,8 @@ pub fn run(
     answers: &mut [u64],
     workspace: &mut [u64],
 ) -> Total
-    ensures { RunPromise (lent book day memory answers workspace) (returned result memory answers workspace) }
+    ensures { RunPromise (lent book.now day.now memory.old answers.old workspace.old)
+        (returned result memory.new answers.new workspace.new) }
 {
     let no = day_refusals::run_refusal(book, day, memory, answers, workspace);
     if no != 0 {
@@ -77,8 +78,8 @@ pub fn pass_from(
     anew: u64,
     filled: usize,
 ) -> Total
-    ensures { PassPromise (lent book day memory answers workspace) (counts asked anew filled)
-        (returned result memory answers workspace) }
+    ensures { PassPromise (lent book.now day.now memory.old answers.old workspace.old) (counts asked anew filled)
+        (returned result memory.new answers.new workspace.new) }
 {
     let from = Counts {
         asked: asked,

@@ -21,7 +21,8 @@ pub extern "C" fn esquirmell_run(
     answers: &mut [u64],
     workspace: &mut [u64],
 ) -> Total
-    ensures { RunPromise (lent book day memory answers workspace) (returned result memory answers workspace) }
+    ensures { RunPromise (lent book.now day.now memory.old answers.old workspace.old)
+        (returned result memory.new answers.new workspace.new) }
 {
     day_run::run(book, day, memory, answers, workspace)
 }
@@ -37,8 +38,8 @@ pub extern "C" fn esquirmell_pass(
     anew: u64,
     filled: usize,
 ) -> Total
-    ensures { PassPromise (lent book day memory answers workspace) (counts asked anew filled)
-        (returned result memory answers workspace) }
+    ensures { PassPromise (lent book.now day.now memory.old answers.old workspace.old) (counts asked anew filled)
+        (returned result memory.new answers.new workspace.new) }
 {
     day_run::pass_from(book, day, memory, answers, workspace, asked, anew, filled)
 }
@@ -52,7 +53,8 @@ pub extern "C" fn esquirmell_ask(
     question: &[u64],
     answer: &mut [u64],
 ) -> Answered
-    ensures { QuestionPromise (question_lent book memory filled anew question answer) (question_returned result memory answer) }
+    ensures { QuestionPromise (question_lent book.now memory.old filled anew question.now answer.old)
+        (question_returned result memory.new answer.new) }
 {
     memory_question::answer_question(book, memory, filled, anew, question, answer)
 }

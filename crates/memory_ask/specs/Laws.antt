@@ -14,7 +14,7 @@ use Rattle.memory_index.specs.declared.Found.{Found}
 use Rattle.memory_index.specs.declared.Found.TheVariants.{At, Nothing}
 use Rattle.memory_index.specs.Index.{meant, Indexed}
 use Rattle.memory_ask.specs.declared.Counts.{Counts}
-use Rattle.memory_ask.specs.Ask.{carried_in, replied_in}
+use Rattle.memory_ask.specs.Ask.{carried_in, replied}
 
 -- what was found
 module _ (m : List ℕ) (n : ℕ) (q : Question) (r : Found) (found : meant r ≡ first_slot m n q) where
@@ -40,17 +40,17 @@ module _ (b : List State) (m w l : List ℕ) (c : Counts) where
   counted r = (r.answer, record { asked = c.asked + 1; kept = r.kept })
 
   pub ask_found : (r : Found) (i : ℕ) → meant r ≡ first_slot m c.filled (question_in w) → r ≡ At i → l ≡ slot_answer m i
-      → replied_in l m (record { asked = c.asked + 1; anew = c.anew; filled = c.filled }) ≡ ask_next b (question_in w) (carried_in m c)
+      → replied l m (record { asked = c.asked + 1; anew = c.anew; filled = c.filled }) ≡ ask_next b (question_in w) (carried_in m c)
   ask_found r i f d e =
       rw e (sym (ap counted (kept_answer b (question_in w) (carried_in m c).kept i (found_some m c.filled (question_in w) r f i d))))
 
   module _ (s : ℕ) (lent : s ≡ slots_lent m) (worked : l ≡ work_out b (question_in w)) (new : first_slot m c.filled (question_in w) ≡ none) where
     pub anew_full : s ≤ c.filled
-        → replied_in l m (record { asked = c.asked + 1; anew = c.anew + 1; filled = c.filled }) ≡ ask_next b (question_in w) (carried_in m c)
+        → replied l m (record { asked = c.asked + 1; anew = c.anew + 1; filled = c.filled }) ≡ ask_next b (question_in w) (carried_in m c)
     anew_full h = rw worked (sym (ap counted (fresh_full b (question_in w) (carried_in m c).kept new (omega arith))))
 
     pub anew_kept : (m' : List ℕ) → c.filled < s → length w ≡ question_width → m' ≡ with_slot m c.filled w l
-        → replied_in l m' (record { asked = c.asked + 1; anew = c.anew + 1; filled = c.filled + 1 }) ≡ ask_next b (question_in w) (carried_in m c)
+        → replied l m' (record { asked = c.asked + 1; anew = c.anew + 1; filled = c.filled + 1 }) ≡ ask_next b (question_in w) (carried_in m c)
     anew_kept m' h long e =
         let q : Question = question_in w in
         let kept : List ℕ → Reply

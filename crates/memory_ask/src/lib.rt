@@ -14,12 +14,12 @@ ghost use Rattle.rules.specs.Pass.{ask_next};
 ghost use Rattle.book_plan.specs.Plan.{Planned, states_in};
 ghost use Rattle.memory_hash.specs.Hash.{Hashed};
 ghost use Rattle.memory_index.specs.Index.{Indexed};
-ghost use Rattle.memory_ask.specs.Ask.{carried, replied, CanAsk};
+ghost use Rattle.memory_ask.specs.Ask.{carried_in, replied, CanAsk};
 
 use memory_index::Found;
 
 // What is counted from question to question: those asked, those worked out anew, the slots filled.
-#[derive(Drop)]
+#[derive(Clone, Copy)]
 pub struct Counts {
     pub asked: u64,
     pub anew: u64,
@@ -50,8 +50,9 @@ fn work_anew(
 ) -> Counts
     requires can_ask { CanAsk plan.now index.old memory.old c }
     requires hashed { Hashed q.now h × (length answer.old ≡ set_width) }
-    requires q_value { first_slot memory.old c.filled (question_in q.now) ≡ none }
-    ensures result_value { replied answer memory result ≡ ask_next (states_in plan.now) (question_in q.now) (carried memory c) }
+    requires unasked { first_slot memory.old c.filled (question_in q.now) ≡ none }
+    ensures answered { replied answer.new memory.new result
+        ≡ ask_next (states_in plan.now) (question_in q.now) (carried_in memory.old c) }
     ensures indexed { Indexed index.new memory.new result.filled }
 {
     let filled = c.filled;
@@ -76,8 +77,9 @@ pub fn ask(
     answer: &mut [u64],
 ) -> Counts
     requires can_ask { CanAsk plan.now index.old memory.old c }
-    requires q_len { (length q.now ≡ question_width) × (length answer.old ≡ set_width) }
-    ensures result_value { replied answer memory result ≡ ask_next (states_in plan.now) (question_in q.now) (carried memory c) }
+    requires question_long { (length q.now ≡ question_width) × (length answer.old ≡ set_width) }
+    ensures answered { replied answer.new memory.new result
+        ≡ ask_next (states_in plan.now) (question_in q.now) (carried_in memory.old c) }
     ensures indexed { Indexed index.new memory.new result.filled }
 {
     let filled = c.filled;

@@ -1,1 +1,3 @@
 pub mod Index
+pub mod Chains
+pub mod Laws

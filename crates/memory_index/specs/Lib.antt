@@ -1,4 +1,2 @@
 -- The index: what it is, then its laws in the order of need.
 pub mod Index
-pub mod Chains
-pub mod Laws

@@ -18,7 +18,7 @@ use memory_hash::HEADS;
 // The index's length: the heads, and then a number a slot.
 pub const ROOM: usize = HEADS + memory_slots::SLOTS;
 
-#[derive(Drop)]
+#[derive(Clone, Copy)]
 pub enum Found {
     At(usize),
     Nothing,
@@ -106,9 +106,9 @@ pub fn index_all(index: &mut [u16], memory: &[u64], filled: usize)
 pub fn keep(index: &mut [u16], memory: &mut [u64], n: usize, q: &[u64], h: usize, answer: &[u64])
     requires indexed { Indexed index.old memory.old n × (n < slots_lent memory.old) }
     requires hashed { Hashed q.now h × (length answer.now ≡ set_width) }
-    requires q_value { first_slot memory.old n (question_in q.now) ≡ none }
-    ensures memory_value { memory.new ≡ with_slot memory.old n q.now answer.now }
-    ensures indexed_2 { Indexed index.new memory.new (n + 1) }
+    requires unasked { first_slot memory.old n (question_in q.now) ≡ none }
+    ensures kept { memory.new ≡ with_slot memory.old n q.now answer.now }
+    ensures still_indexed { Indexed index.new memory.new (n + 1) }
 {
     memory_slots::keep(memory, n, q, answer);
     enter(index, n, h);

@@ -14,9 +14,9 @@ use Rattle.rules.specs.Calls.{QuestionLent, question_refusal, answer_question}
 use Rattle.book_plan.specs.Plan.{Planned, states_in, PlanOf}
 use Rattle.book_plan.proofs.Plan.{plan_lent}
 use Rattle.memory_ask.specs.declared.Counts.{Counts}
-use Rattle.memory_ask.specs.Ask.{carried_in, replied_in}
+use Rattle.memory_ask.specs.Ask.{carried_in, replied}
 use Rattle.memory_refusals.specs.Laws.{refused_book, past_book}
-use Rattle.memory_question.specs.Question.{answered_with, Answerable}
+use Rattle.memory_question.specs.Question.{question_returned, Answerable}
 
 -- ── `answer_question` ──
 -- the counts that a question alone starts from
@@ -32,13 +32,13 @@ module _ (book w room m : List ℕ) (a f n : ℕ) (checked : n ≡ question_refu
   lent_now = lent_so book w room m a f
 
   -- a refusal leaves the memory and the room for the answer as they were
-  pub refuses : (n ≡ 0 → ⊥) → answered_with (record { refusal = n; anew = 0; filled = 0 }) m room ≡ answer_question lent_now
+  pub refuses : (n ≡ 0 → ⊥) → question_returned (record { refusal = n; anew = 0; filled = 0 }) m room ≡ answer_question lent_now
   unfolding answer_question
   refuses h = rw checked (sym (pick_false _ _ _ (ne_eqb _ _ (λ z. h (checked ∙ z)))))
 
   pub answers : (m' l : List ℕ) (t a' f' : ℕ) → n ≡ 0
-      → replied_in l m' (record { asked = t; anew = a'; filled = f' }) ≡ ask_next (states_of book) (question_in w) (carried_in m (counted a f))
-      → answered_with (record { refusal = 0; anew = a'; filled = f' }) m' l ≡ answer_question lent_now
+      → replied l m' (record { asked = t; anew = a'; filled = f' }) ≡ ask_next (states_of book) (question_in w) (carried_in m (counted a f))
+      → question_returned (record { refusal = 0; anew = a'; filled = f' }) m' l ≡ answer_question lent_now
   unfolding answer_question
   answers m' l t a' f' z e =
       ap (λ (x : List ℕ × Carried). record { refusal = 0; reply = record { answer = x.0; kept = x.1.kept } }) e

@@ -1,8 +1,5 @@
 -- What the inner call gives, as its promise has it, beside what it is lent; and what a question that is not refused has.
 use Rattle.std.specs.Prelude.{◌≡◌, List, ℕ, ◌<◌, ◌≤◌, length}
-use Rattle.std.specs.Borrow.{Bor}
-use denote.Triple.Both.{Both}
-use Rattle.lists.specs.Lending.{left}
 use Rattle.rules.specs.Book.{book_refusal}
 use Rattle.rules.specs.Sets.{set_width}
 use Rattle.rules.specs.Memory.{question_width, slots_lent}
@@ -12,12 +9,9 @@ use Rattle.memory_ask.specs.Ask.{count_most}
 use Rattle.memory_question.specs.declared.Answered.{Answered}
 pub use Rattle.memory_refusals.specs.Question.{question_lent}
 
-abbrev pub answered_with : Answered → List ℕ → List ℕ → QuestionReturned
-answered_with r m a = record { refusal = r.refusal; reply = record { answer = a; kept = record { memory = m; anew = r.anew; filled = r.filled } } }
-
 -- its result, and what the memory and the answer hold when it ends
-abbrev pub question_returned : {A B : Type 0} → Answered → Both A (Bor (List ℕ)) → Both B (Bor (List ℕ)) → QuestionReturned
-question_returned r memory answer = answered_with r (left memory) (left answer)
+abbrev pub question_returned : Answered → List ℕ → List ℕ → QuestionReturned
+question_returned r m a = record { refusal = r.refusal; reply = record { answer = a; kept = record { memory = m; anew = r.anew; filled = r.filled } } }
 
 -- what an accepted question has
 pub record Answerable (book memory : List ℕ) (c : Counts) (q answer : List ℕ) : Type 0 where

@@ -10,7 +10,7 @@ ghost use Rattle.rules.specs.Book.{states_of};
 ghost use Rattle.rules.specs.Memory.{question_in};
 ghost use Rattle.rules.specs.Pass.{ask_next};
 ghost use Rattle.rules.specs.Promise.{QuestionPromise};
-ghost use Rattle.memory_ask.specs.Ask.{carried, replied};
+ghost use Rattle.memory_ask.specs.Ask.{carried_in, replied};
 ghost use Rattle.memory_refusals.specs.Question.{question_lent};
 ghost use Rattle.memory_question.specs.Question.{question_returned, Answerable};
 
@@ -18,7 +18,7 @@ use memory_ask::Counts;
 
 // The refusal, and the counts for the next question; zero counts where the question is refused.
 #[repr(C)]
-#[derive(Drop)]
+#[derive(Clone, Copy)]
 pub struct Answered {
     pub refusal: u64,
     pub anew: u64,
@@ -28,7 +28,8 @@ pub struct Answered {
 // A question to an accepted book.
 fn ask_alone(book: &[u8], memory: &mut [u64], c: Counts, q: &[u64], answer: &mut [u64]) -> Counts
     requires { Answerable book.now memory.old c q.now answer.old }
-    ensures { replied answer memory result ≡ ask_next (states_of book.now) (question_in q.now) (carried memory c) }
+    ensures { replied answer.new memory.new result
+        ≡ ask_next (states_of book.now) (question_in q.now) (carried_in memory.old c) }
 {
     let mut plan = [0u64; book_plan::ROOM];
     let long = book_planner::make(book, &mut plan);
@@ -46,7 +47,8 @@ pub fn answer_question(
     q: &[u64],
     answer: &mut [u64],
 ) -> Answered
-    ensures { QuestionPromise (question_lent book memory filled anew q answer) (question_returned result memory answer) }
+    ensures { QuestionPromise (question_lent book.now memory.old filled anew q.now answer.old)
+        (question_returned result memory.new answer.new) }
 {
     let c = Counts {
         asked: 0,

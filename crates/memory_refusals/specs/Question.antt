@@ -1,12 +1,8 @@
 -- What is lent to the inner call, as its promise has it.
 use Rattle.std.specs.Prelude.{List, ℕ}
-use Rattle.std.specs.Borrow.{Bor}
-use denote.Triple.Both.{Both}
-use Rattle.lists.specs.Lending.{was}
 use Rattle.rules.specs.Calls.{QuestionLent}
 
--- of the slices of a call: what each held when the call began
-abbrev pub question_lent : {A B C D : Type 0} →
-    Both (Bor (List ℕ)) A → Both (Bor (List ℕ)) B → ℕ → ℕ → Both (Bor (List ℕ)) C → Both (Bor (List ℕ)) D → QuestionLent
+-- what each slice of a call held when the call began, and the counts
+abbrev pub question_lent : List ℕ → List ℕ → ℕ → ℕ → List ℕ → List ℕ → QuestionLent
 question_lent book memory filled anew q answer =
-    record { book = was book; question = was q; room = was answer; kept = record { memory = was memory; anew = anew; filled = filled } }
+    record { book = book; question = q; room = answer; kept = record { memory = memory; anew = anew; filled = filled } }

@@ -13,7 +13,7 @@ use memory_slots::{ANSWER, QUESTION};
 // The book's refusals, then 18: a question or an answer's room of another length; then 14: more slots filled than lent;
 // then 19: a count of 2^63 or more.
 pub fn refusal_of(book: &[u8], memory: &[u64], c: Counts, q: &[u64], answer: &[u64]) -> u64
-    ensures { result ≡ question_refusal (question_lent book memory c.filled c.anew q answer) }
+    ensures { result ≡ question_refusal (question_lent book.now memory.now c.filled c.anew q.now answer.now) }
 {
     let no = book_check::check_book(book);
     if no != 0 {

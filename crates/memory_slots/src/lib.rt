@@ -50,8 +50,8 @@ pub fn lent(memory: &[u64]) -> usize
 }
 
 fn fill(slot: &mut [u64], q: &[u64], answer: &[u64])
-    requires slot_len { length slot.old ≡ slot_width }
-    requires q_len { (length q.now ≡ question_width) × (length answer.now ≡ set_width) }
+    requires slot_long { length slot.old ≡ slot_width }
+    requires question_long { (length q.now ≡ question_width) × (length answer.now ≡ set_width) }
     ensures { slot.new ≡ q.now ++ answer.now }
 {
     lists::copy(&mut slot[0..QUESTION], q);
@@ -61,7 +61,7 @@ fn fill(slot: &mut [u64], q: &[u64], answer: &[u64])
 // The question and its answer in slot i.
 pub fn keep(memory: &mut [u64], i: usize, q: &[u64], answer: &[u64])
     requires has_slot { HasSlot memory.old i }
-    requires q_len { (length q.now ≡ question_width) × (length answer.now ≡ set_width) }
+    requires question_long { (length q.now ≡ question_width) × (length answer.now ≡ set_width) }
     ensures { memory.new ≡ with_slot memory.old i q.now answer.now }
 {
     let a = SLOT * i;

@@ -34,9 +34,9 @@ pub fn close(
     memory: &mut [u64],
     c: Counts,
 ) -> Counts
-    requires d_nonzero { (0 < d) × HasLevel workspace.old d }
+    requires inside { (0 < d) × HasLevel workspace.old d }
     requires can_ask { CanAsk plan.now index.old memory.old c }
-    ensures result_value { (workspace.new, carried_in memory.new result)
+    ensures closed { (workspace.new, carried_in memory.new result)
         ≡ close_of (states_in plan.now) workspace.old d (carried_in memory.old c) }
     ensures indexed { Indexed index.new memory.new result.filled }
 {

@@ -15,14 +15,14 @@ ghost use Rattle.message_events.specs.Step.{AtEvent, start_of, text_for, text_of
 use memory_ask::Counts;
 
 // How far a message is read: the place of the next event, the starts open, and the counts.
-#[derive(Drop)]
+#[derive(Clone, Copy)]
 pub struct Reader {
     pub place: usize,
     pub depth: usize,
     pub counts: Counts,
 }
 
-#[derive(Drop)]
+#[derive(Clone, Copy)]
 pub enum Step {
     Next(Reader),
     Refused(u64, usize),
@@ -97,7 +97,7 @@ impl Reader {
     ) -> Step
         requires at_event { AtEvent body.now workspace.old self }
         requires can_ask { CanAsk plan.now index.old memory.old self.counts }
-        ensures memory_value { (meant result, workspace.new, memory.new)
+        ensures ended { (meant result, workspace.new, memory.new)
             ≡ end_of body.now (meaning_in plan.now) workspace.old memory.old self }
         ensures indexed_next { IndexedNext index.new memory.new self.counts.filled (meant result) }
     {

@@ -12,7 +12,7 @@ use memory_ask::Counts;
 use message_events::Reader;
 
 // A message's refusal and place, 0 and 0 where it is read, and the counts after it.
-#[derive(Drop)]
+#[derive(Clone, Copy)]
 pub struct Ended {
     pub refusal: u64,
     pub place: usize,

@@ -25,7 +25,7 @@ fn read_on(
     workspace: &mut [u64],
 ) -> Ended
     requires can_read { CanRead plan.now index.old memory.old body.now from.counts }
-    requires place_in_bounds { (from.place ≤ length body.now) × HasLevel workspace.old from.depth }
+    requires place_inside { (from.place ≤ length body.now) × HasLevel workspace.old from.depth }
     ensures read_from { ReadFrom body.now (meaning_in plan.now) workspace.old memory.old from result workspace.new memory.new }
     ensures indexed { Indexed index.new memory.new result.counts.filled }
 {
@@ -58,7 +58,7 @@ pub fn read(
     counts: Counts,
 ) -> Ended
     requires can_read { CanRead plan.now index.old memory.old body.now counts }
-    requires workspace_width_in_bounds { workspace_width ≤ length workspace.old }
+    requires levels_lent { workspace_width ≤ length workspace.old }
     ensures read_message { ReadMessage body.now (meaning_in plan.now) workspace.old memory.old counts
         result workspace.new memory.new }
     ensures indexed { Indexed index.new memory.new result.counts.filled }

@@ -23,7 +23,7 @@ pub fn step(
 ) -> Step
     requires at_event { AtEvent body.now workspace.old s }
     requires can_ask { CanAsk plan.now index.old memory.old s.counts }
-    ensures memory_value { (meant result, workspace.new, memory.new)
+    ensures stepped { (meant result, workspace.new, memory.new)
         ≡ step_of body.now (meaning_in plan.now) workspace.old memory.old s }
     ensures indexed_next { IndexedNext index.new memory.new s.counts.filled (meant result) }
 {

@@ -158,7 +158,7 @@ module _ (m : Bool) where
   -- past the range, the number itself plays no part
   range_big : (a b : ℕ) → lowest < a → lowest < b → in_range m a ≡ in_range m b
   unfolding pick
-  range_big a b ha hb = elim m [
+  range_big a b ha hb = elim m as (λ (k : Bool). in_range k a ≡ in_range k b) [
     | true ↦ rw (lt-leb a lowest ha, lt-leb b lowest hb)
     | false ↦ rw (lt-leb a highest (omega arith), lt-leb b highest (omega arith))
   ]

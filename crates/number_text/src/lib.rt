@@ -18,7 +18,7 @@ const LOWEST: u64 = 2147483648;
 // And how far up.
 const HIGHEST: u64 = 2147483647;
 
-#[derive(Drop)]
+#[derive(Clone, Copy)]
 pub enum Value {
     Number(i32),
     NoNumber,

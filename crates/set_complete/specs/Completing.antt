@@ -16,7 +16,7 @@ use Rattle.rules.proofs.Sets.Laws.{Upto}
 use Rattle.rules.specs.OneBit.{put}
 use Rattle.book_plan.specs.Plan.{plan_width, plan_state, state_in, state_count, states_in, Planned}
 use Rattle.book_plan.proofs.Plan.{states_long, states_at}
-use Rattle.book_plan.specs.Putting.{Putting, putting_down, plan_inside, no_bit, far_bit, planned_bit, planned_past, planned_ext}
+use Rattle.book_plan.proofs.Putting.{Putting, putting_down, plan_inside, no_bit, far_bit, planned_bit, planned_past, planned_ext}
 
 -- the completed set as eight numbers
 unfoldable pub completed_set : List State → List ℕ → List ℕ

@@ -15,8 +15,8 @@ ghost use Rattle.set_complete.specs.Completing.{completed_set};
 // What one state says: LEAF and STEP stand as asked, AND, OR and NOT by the states above them, which are completed
 // already.
 fn bit_of(kind: u64, x: u64, y: u64, k: usize, asked: &[u64], set: &[u64]) -> bool
-    requires set_width_in_bounds { (set_width ≤ length asked.now) × (set_width ≤ length set.now) }
-    requires k_lt_most_states { (k < most_states) × Inside (plan_state kind x y) most_states }
+    requires sets_long { (set_width ≤ length asked.now) × (set_width ≤ length set.now) }
+    requires state_inside { (k < most_states) × Inside (plan_state kind x y) most_states }
     ensures { result ≡ completes (plan_state kind x y) (member asked.now k) (member set.now) }
 {
     match kind {

@@ -40,7 +40,7 @@ fn filters_of(book: &[u8], set: &[u64]) -> u64
 // so filters lends it here.
 fn filters_in(book: &[u8], plan: &[u64], set: &[u64], done: &mut [u64]) -> u64
     requires plan_of { PlanOf plan.now book.now × BookAccepted book.now }
-    requires set_len { (length set.now ≡ set_width) × (length done.old ≡ set_width) }
+    requires sets_long { (length set.now ≡ set_width) × (length done.old ≡ set_width) }
     ensures { result ≡ filters_where book.now (completed (states_of book.now) set.now) }
 {
     set_complete::complete(plan, set, done);

@@ -14,7 +14,7 @@ use Rattle.rules.specs.Sets.{set_width, has, either, is_leaf_of, leaves_of}
 use Rattle.rules.proofs.Sets.Laws.{set_ext, set_of_fits, either_long, either_fits, has_either}
 use Rattle.rules.specs.OneBit.{put}
 use Rattle.book_plan.specs.Plan.{plan_width, plan_state, state_in, state_count, states_in, Planned}
-use Rattle.book_plan.specs.Putting.{Putting, putting_up, putting_skip, planned_bit, planned_past}
+use Rattle.book_plan.proofs.Putting.{Putting, putting_up, putting_skip, planned_bit, planned_past}
 
 module _ (p : List ℕ) (q : Planned p) (v : Value) (ws : List ℕ) where
   joined_bit : (j : ℕ) → j < state_count p → has (either ws (leaves_of (states_in p) v)) j ≡ has ws j || is_leaf_of v (state_in p j)

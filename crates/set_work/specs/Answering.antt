@@ -12,7 +12,7 @@ use Rattle.rules.proofs.Sets.Laws.{set_of_agree}
 use Rattle.rules.specs.OneBit.{put}
 use Rattle.book_plan.specs.Plan.{plan_width, plan_state, state_in, state_count, states_in, Planned}
 use Rattle.book_plan.proofs.Plan.{states_long, states_at}
-use Rattle.book_plan.specs.Putting.{Putting, putting_up, plan_inside, no_bit, planned_bit, planned_past, planned_ext}
+use Rattle.book_plan.proofs.Putting.{Putting, putting_up, plan_inside, no_bit, planned_bit, planned_past, planned_ext}
 use Rattle.set_complete.specs.Completing.{completed_set, completed_bit}
 
 -- ── the answer ──

@@ -58,7 +58,7 @@ fn answer(plan: &[u64], set: &[u64], label: u64, out: &mut [u64])
 // lends it here.
 fn work_in(plan: &[u64], asked: &[u64], label: u64, set: &mut [u64], out: &mut [u64])
     requires planned { Planned plan.now × (set_width ≤ length asked.now) }
-    requires set_len { (length set.old ≡ set_width) × (length out.old ≡ set_width) }
+    requires sets_long { (length set.old ≡ set_width) × (length out.old ≡ set_width) }
     ensures { out.new ≡ work_out (states_in plan.now) (record { states = asked.now; label = label }) }
 {
     set_complete::complete(plan, asked, set);

@@ -29,8 +29,8 @@ fn put(n: u64) {
 
 // A line: a word and w's numbers at places from up to to.
 fn put_part(word: &[u8], w: &[u64], from: usize, to: usize)
-    requires from_le_to { from ≤ to }
-    requires to_in_bounds { to ≤ length w.now }
+    requires in_order { from ≤ to }
+    requires inside { to ≤ length w.now }
 {
     io::write_all(STDOUT_FILENO, word);
     let mut k = from;

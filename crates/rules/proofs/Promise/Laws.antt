@@ -51,5 +51,5 @@ abbrev pub Slice : Type 0
 Slice = Both (MutBor (List ℕ)) (MutBor (List ℕ))
 
 pub lent_are : (b d : Shown) (m a w : Slice) →
-    lent b d m a w ≡ record { book = held b; day = held d; memory = was m; answers = was a; workspace = was w }
+    lent (held b) (held d) (was m) (was a) (was w) ≡ record { book = held b; day = held d; memory = was m; answers = was a; workspace = was w }
 lent_are b d m a w = refl
