@@ -30,13 +30,13 @@ SOURCE = ["crates/*/specs/**/*.antt", "crates/*/proofs/**/*.antt", "crates/*/src
           "tests/*.py", "second/*.py", "test", "run", "esquirmell", "tool/*.[ht]*", "*/check", "bench/run", "crates.txt"]
 NOTATION = {
     "README.md": {"small/day.bin: message 5, byte 9 (byte 168 of the file), 24: a start is not allowed here"},  # held by tests/commands.py
-    "CONTRIBUTING.md": {"was x", "left x", "# true: TEXT"},
+    "CONTRIBUTING.md": {"x.now", "x.old", "x.new", "# true: TEXT", "_lem", "proofs/F", "rt check --start F", "rt fmt", "rt tidy", "rt doc"},
     "second/README.md": {'LINK="-lpthread -ldl" second/check lib.a'},
     "docs/COMMAND.md": {"0 TRUE", "0 LEAF > 5", "0 AND 1 2", "0 OR 1 2", "0 NOT 1", "0 STEP 3 -> 1", "start 1", 'text "6"', "end 1",
                         "bytes 01 ff", r"\xHH", "STEP service -> 1", "start @day"},
     "docs/ARCHITECTURE.md": {"day_tally"},  # a crate of a later request
-    "docs/DECISIONS.md": {"endian"},  # a name that was not taken
-    "docs/HELP.md": {"{ .. }", "f x y", "f (g x) y", "was x", "left x", "x.now", "x.old", "x.new", "lent ..", "returned ..", "a ≡ b",
+    "docs/DECISIONS.md": {"endian", "_lem"},  # a name that was not taken, and an ending
+    "docs/HELP.md": {"{ .. }", "f x y", "f (g x) y", "x.now", "x.old", "x.new", "lent ..", "returned ..", "a ≡ b",
                      "A × B", "A → B", "A ↔ B", "A → ⊥", "(n : ℕ) → A", "x.field", "a ∷ s", "s ++ t", "get_or s i 0", "cpu="},
     "docs/RULES.md": {"OR 1 2",  # what follows is XPath
                       "//late", "//@day", "/service[call]", "/service[@day]/call/late", "/service/@day = 6", "/service[@day = 6]",
