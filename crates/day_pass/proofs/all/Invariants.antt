@@ -1,0 +1,10 @@
+use Rattle.day_check.specs.DayAccepted.{day_two}
+use Rattle.day_pass.specs.Passing.{Passing, passing_none, passing_there, passing_room, passing_levels, passing_asked, passing_anew, passing_more, passing_all}
+use Prim.Native.Nat.{◌-◌}
+use Rattle.day_pass.proofs.all.Given as goal
+
+abbrev pub invariant-loop-k : goal.invariant-loop-k
+invariant-loop-k l = Passing l.book l.day l.initial.index l.initial.memory l.initial.answers l.initial.workspace l.initial.c l.count l.index l.memory l.answers l.workspace l.c l.k
+
+abbrev pub decreases-loop-k : goal.decreases-loop-k
+decreases-loop-k l = l.count - l.k
