@@ -1,7 +1,7 @@
 /* Esquirmell for C and C++, and for any language that can call C.
  *
- *     rt staticlib exported
- *     gcc -Iinclude program.c target/staticlib/libexported.a -o program
+ *     (cd crates/exported && rt lib)
+ *     gcc -Iinclude program.c crates/exported/out/libexported.a -o program
  *
  * The library is for x86-64 and needs nothing but memset. examples/small.c is a
  * whole program; docs/FORMATS.md has the bytes of a book, a day file and a slot.

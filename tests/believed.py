@@ -2,7 +2,8 @@
 """Follows the names from the page of the demands and the page of the promises, and says how much there is to believe.
 
 A statement on those pages, a record of the demands, a theorem's type or a promise, names definitions; each definition names others. Every one
-that is met must stand at a door: a file directly in crates/*/specs. What stands in a folder behind a door is a law, so meeting it is an error.
+that is met must stand at a door: a file directly in crates/*/specs. What stands in a folder behind a door, or in proofs, is a law, so meeting
+it is an error. The theorems of the demands stand in proofs, and what they state is part of the page.
 The first lines of the demands' page list the files that are met, and they must be just those. The last line is the count, which the docs cite.
 """
 import os
@@ -10,14 +11,14 @@ import re
 import sys
 
 TOP = os.path.dirname(os.path.dirname(os.path.abspath(__file__)))
-PAGES = [("demands", "Demands"), ("rules", "Promise")]
+PAGES = [("demands", "Demands", "specs"), ("demands", "Demands", "proofs"), ("rules", "Promise", "specs")]
 CITED = ["docs/HELP.md", "docs/DECISIONS.md"]
 TOKEN = re.compile(r"[^\s(){}\[\],;]+")
 DECLARED = re.compile(r"\s*(?:abbrev |unfoldable |pub )*(data |record )?([^\s:]+)(.*)$")
 
 
-def source(crate, module):
-    return os.path.join(TOP, "crates", crate, "specs", *module.split(".")) + ".antt"
+def source(crate, module, folder="specs"):
+    return os.path.join(TOP, "crates", crate, folder, *module.split(".")) + ".antt"
 
 
 def read(path):
@@ -31,28 +32,28 @@ def bare(line):
 class File:
     """A file's imports, and its declarations: for each name the lines that say what it is."""
 
-    def __init__(self, crate, module):
+    def __init__(self, crate, module, folder):
         self.crate, self.module = crate, module
         self.imports, self.aliases, self.said, self.stated = {}, {}, {}, {}
-        lines = [bare(line) for line in read(source(crate, module)).split("\n")]
+        lines = [bare(line) for line in read(source(crate, module, folder)).split("\n")]
         for line in lines:
             if line.startswith("use "):
                 self.use(line[4:])
         self.declarations([line for line in lines if line and not line.startswith(("use ", "pub mod "))])
 
     def use(self, text):
-        named = re.match(r"Rattle·(\w+?)(?:·specs\.specs|\.specs)\.?([\w.]*?)\.?(?:\{(.*)\})?(?: as (\w+))?$", text)
+        named = re.match(r"Rattle\.(?!std\b)(\w+)\.(specs|proofs)\.?([\w.]*?)\.?(?:\{(.*)\})?(?: as (\w+))?$", text)
         if not named:
             return
-        crate, module, items, alias = named.groups()
+        crate, folder, module, items, alias = named.groups()
         if items is None:
-            self.aliases[alias or module.split(".")[-1]] = (crate, module)
+            self.aliases[alias or module.split(".")[-1]] = (crate, module, folder)
             return
         for item in items.split(","):
             name, _, other = item.strip().partition(" as ")
             whole = (module + "." if module else "") + name
             inside, _, last = whole.rpartition(".")
-            self.imports[other or last] = (crate, inside, last)
+            self.imports[other or last] = (crate, inside, folder, last)
 
     def declarations(self, lines):
         """A declaration is its signature and its clauses; of a data type or a record, all that is indented below it.
@@ -88,26 +89,28 @@ class File:
 def files():
     found = {}
 
-    def file(crate, module):
-        if (crate, module) not in found:
-            found[crate, module] = File(crate, module)
-        return found[crate, module]
+    def file(*place):
+        if place not in found:
+            found[place] = File(*place)
+        return found[place]
 
     return file
 
 
 def names(lines):
+    """The words of some lines; of a projection `x.field` both x and field, too."""
     for word in TOKEN.findall(" ".join(lines)):
-        word = word.rstrip(".").lstrip(".") if word not in (".", "..") else word
+        word = word.strip(".")
         if word:
             yield word
+            yield from word.split(".") if "." in word else []
 
 
 def follow():
-    """The definitions that the pages' statements reach: {(crate, module): {name: lines}}."""
-    file, met, todo = files(), {}, []
-    for crate, module in PAGES:
-        page = file(crate, module)
+    """The definitions that the pages' statements reach: {(crate, module): {name: lines}}; and the laws that they reach, which is wrong."""
+    file, met, laws, todo = files(), {}, set(), []
+    for place in PAGES:
+        page = file(*place)
         todo += [(page, name) for name in page.stated]
     while todo:
         at, name = todo.pop()
@@ -120,17 +123,25 @@ def follow():
             if word in at.stated:
                 todo.append((at, word))
             elif word in at.imports:
-                crate, module, last = at.imports[word]
-                owner = file(crate, module)
-                if last in owner.stated:
-                    todo.append((owner, last))
+                *place, last = at.imports[word]
+                if is_law(*place):
+                    laws.add((*place, last))
+                elif last in file(*place).stated:
+                    todo.append((file(*place), last))
                 else:
-                    sys.exit("believed: %s of %s/%s is not found in %s/%s" % (word, at.crate, at.module, crate, module))
+                    sys.exit("believed: %s of %s/%s is not found in %s/%s" % (word, at.crate, at.module, *place[:2]))
             elif rest and first in at.aliases:
                 owner = file(*at.aliases[first])
-                if rest in owner.stated:
+                if is_law(*at.aliases[first]):
+                    laws.add((*at.aliases[first], rest))
+                elif rest in owner.stated:
                     todo.append((owner, rest))
-    return met
+    return met, laws
+
+
+def is_law(crate, module, folder):
+    """Whether a file has laws: one of proofs, or one in a folder behind a door."""
+    return folder == "proofs" or "." in module
 
 
 def listed():
@@ -153,13 +164,12 @@ def count(met):
 
 
 def main():
-    met = follow()
-    behind = sorted("%s/specs/%s: %s" % (c, m.replace(".", "/"), ", ".join(sorted(ns))) for (c, m), ns in met.items() if "." in m)
-    for line in behind:
-        print("believed: a statement rests on a law file, crates/" + line)
-    if behind:
-        sys.exit("believed: %d law files met" % len(behind))
-    doors = set(met) - {PAGES[0]}
+    met, laws = follow()
+    for crate, module, folder, name in sorted(laws):
+        print("believed: a statement rests on a law, crates/%s/%s/%s: %s" % (crate, folder, module.replace(".", "/"), name))
+    if laws:
+        sys.exit("believed: %d laws met" % len(laws))
+    doors = set(met) - {PAGES[0][:2]}
     if doors != listed():
         for c, m in sorted(doors - listed()):
             print("believed: the head of the demands' page does not list %s/specs/%s.antt" % (c, m))

@@ -1,11 +1,11 @@
 #!/usr/bin/env python3
 """Guards the public calls, as the table under "The public calls" of docs/PROMISES.md lists them.
 
-Each call has no `requires`; its one `ensures` is its named promise, with no condition before it, over every argument; the promise comes
-from rules/specs/Promise.antt. At least two must-fail edits are its own: they stand in its crate and beside its name on the page, and
-beside no other call. A test runs it: a program whose output is stored, or, from C, a program that the gate builds. What is marked
-`extern "C"` is in the table and in the header, and nothing else. Every other `pub fn` is for sister crates, and its crate's first lines
-say so.
+Each call has no `requires`; its one `ensures` is its named promise, with no condition before it, over the result and every argument, of an
+area that may be written both what it held and what it holds; the promise comes from rules/specs/Promise.antt. At least two must-fail
+edits are its own: they stand in its crate and beside its name on the page, and beside no other call. A test runs it: a program whose
+output is stored, or, from C, a program that the gate builds. What is marked `extern "C"` is in the table and in the header, and nothing
+else. Every other `pub fn` is for sister crates, and its crate's first lines say so.
 """
 import glob
 import os
@@ -44,6 +44,13 @@ def contract(crate, name):
     return parameters, words
 
 
+def words_of(parameters):
+    """What a promise must speak of: the result and every argument; of an area that may be written, what it held and what it holds."""
+    yield "result"
+    for word, lent in re.findall(r"(\w+): (&mut )?", parameters):
+        yield from [word + ".old", word + ".new"] if lent else [word]
+
+
 def promised(crate, name, promise):
     call = "%s::%s" % (crate, name)
     parameters, words = contract(crate, name)
@@ -54,14 +61,14 @@ def promised(crate, name, promise):
         yield "%s: has a `requires`, and a public call refuses instead" % call
     if words.count("ensures") != 1:
         yield "%s: has %d `ensures`, and its promise is one" % (call, words.count("ensures"))
-    says = re.search(r"ensures \{ λ \w+\. ⌜\s*%s\b([^→↔×⊎⌜⌝]*)⌝ \}" % promise, words)
+    says = re.search(r"ensures (?:\w+ )?\{\s*%s\b([^→↔×⊎{}]*)\}" % promise, words)
     if not says:
         yield "%s: its `ensures` is not its promise, %s, and that alone" % (call, promise)
         return
-    for word in re.findall(r"(\w+):", parameters):
-        if not re.search(r"\b%s\b" % word, says.group(1)):
+    for word in words_of(parameters):
+        if not re.search(r"\b%s\b" % re.escape(word), says.group(1)):
             yield "%s: its promise does not speak of %s" % (call, word)
-    from_page = re.findall(r"^ghost use Rattle·rules\.specs\.Promise\.\{([^}]*)\}", read("crates/%s/src/lib.rt" % crate), re.M)
+    from_page = re.findall(r"^ghost use Rattle\.rules\.specs\.Promise\.\{([^}]*)\}", read("crates/%s/src/lib.rt" % crate), re.M)
     if promise not in re.split(r",\s*", ",".join(from_page)):
         yield "%s: %s is not that of rules/specs/Promise.antt" % (call, promise)
 

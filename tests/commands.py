@@ -17,9 +17,10 @@ from pages import PAGES, page
 from quotes import differ, printed_lines
 from small_day import SMALL_BOOK, SMALL_DAY
 
-COMMAND = re.compile(r"(?:\$ )?(?:\./|rt |man |gcc |rustc |python3 |printf |cmp |bench/|second/|tests/|compare |store )")
+COMMAND = re.compile(r"(?:\$ )?(?:\./|\(cd |rt |man |gcc |rustc |python3 |printf |cmp |bench/|second/|tests/|compare |store )")
 NEEDED = ["esquirmell", "run", "VERSION", "crates.txt", "tool", "include", "examples", "small", "docs"]
 PROVER = "it takes the prover, and is for one who changes a crate; ./test does the same for all crates by rt ci"
+ARCHIVE = "crates/exported/out/libexported.a"
 SAYS = re.compile(r"On standard error it says each refusal in words: `(.*?)`")
 
 
@@ -97,19 +98,20 @@ COMMANDS = {
         "./run": says(64),
         "./run small/book.bin small/day.bin 5": says(5),
         "./test": "it is what runs this",
-        "rt staticlib exported": in_gate("rt staticlib exported"),
+        "(cd crates/exported && rt lib)": in_gate("(cd crates/exported && rt lib)"),
         "./small_day small/book.bin small/day.bin": prints(64),
-        "rustc --edition 2021 -O examples/rust/small.rs -C link-arg=target/staticlib/libexported.a -o small_rust": where("rustc", works),
+        "rustc --edition 2021 -O examples/rust/small.rs -C link-arg=crates/exported/out/libexported.a -o small_rust": where("rustc", works),
         "./small_rust small/book.bin small/day.bin": where("rustc", prints(64)),
     },
     "include/esquirmell.h": {
-        "rt staticlib exported": in_gate("rt staticlib exported"),
-        "gcc -Iinclude program.c target/staticlib/libexported.a -o program": example,
+        "(cd crates/exported && rt lib)": in_gate("(cd crates/exported && rt lib)"),
+        "gcc -Iinclude program.c crates/exported/out/libexported.a -o program": example,
     },
     "CONTRIBUTING.md": {
-        "rt dev CRATE": PROVER,
-        "rt dev CRATE --allow-holes": PROVER,
-        "rt check CRATE": PROVER,
+        "rt check": PROVER,
+        "rt check --allow-holes": PROVER,
+        "rt tidy": PROVER,
+        "rt ci CRATE": PROVER,
         "rt must-fail CRATE": PROVER,
         "./test": "it is what runs this",
     },
@@ -187,9 +189,8 @@ def prepared(room):
     for name in NEEDED:
         copy = shutil.copytree if os.path.isdir(os.path.join(TOP, name)) else shutil.copy2
         copy(os.path.join(TOP, name), os.path.join(room, name))
-    os.makedirs(os.path.join(room, "crates"))
-    os.makedirs(os.path.join(room, "target/staticlib"))
-    shutil.copy(os.path.join(TOP, "target/staticlib/libexported.a"), os.path.join(room, "target/staticlib"))
+    os.makedirs(os.path.join(room, os.path.dirname(ARCHIVE)))
+    shutil.copy(os.path.join(TOP, ARCHIVE), os.path.join(room, ARCHIVE))
     ran(room, "./run")
 
 

@@ -2,7 +2,8 @@
 """Lists names that nothing uses and no page cites: definitions, laws, records, fields, constructors and rulesets of the
 specifications, functions and constants of the code.
 
-A name of a specification is used where another file brings it in by a `use` line, or by its module's name and a dot; a
+A specification is a file of specs, or a file of proofs that is no function's invariants and answers: laws stand in both. A name of a
+specification is used where another file brings it in by a `use` line, or by its module's name and a dot; a
 field or a constructor also where its word stands in another file; and all of them where their word stands in their own
 file outside the lines that define them. Proofs count. A function or a constant of the code is used where code outside its
 own body calls or names it. An example of a file `Examples` and an exported call are used by nobody: a page must cite them.
@@ -21,8 +22,8 @@ HEAD = re.compile(r"(?:pub )?(record|data) (\S+)")
 RULESET = re.compile(r"(?:pub )?ruleset (\S+) =")
 NO_DECLARATION = re.compile(r"(use|pub mod|module|infix[lr]?) ")
 WORD = re.compile(r"[^\s(){}\[\],;|]+")
-USE = re.compile(r"^(?:ghost )?use Rattle·(\w+?)(?:·\w+\.specs|\.specs)(?:\.([\w.]+?))?(?:\.\{([^}]*)\})?(?: as ([^\s;]+))?;?$",
-                 re.M)
+USE = re.compile(r"^(?:ghost )?use Rattle\.(\w+)\.(?:specs|proofs)(?:\.([\w.]+?))?(?:\.\{([^}]*)\})?(?: as ([^\s;]+))?;?$", re.M)
+SPEC = re.compile(r"crates/\w+/(?:specs/|proofs/(?!(?:.*/)?(?:Invariants|Answers|Proof)\.antt$).*\.antt$)")
 
 
 def bare(text):
@@ -105,7 +106,7 @@ def brought(text):
 
 def children(path, text):
     """The modules behind a file of specifications, which it may name without a `use` line."""
-    found = re.match(r"crates/(\w+)/specs/(.*)\.antt$", path)
+    found = re.match(r"crates/(\w+)/(?:specs|proofs)/(.*)\.antt$", path)
     if not found:
         return {}
     crate, inside = found.group(1), found.group(2).replace("/", ".") + "."
@@ -119,7 +120,7 @@ class Tree:
     def __init__(self):
         paths = under("crates", ".antt", ".rt")
         self.texts = {path: read(path) for path in paths}
-        self.specs = [Spec(path) for path in paths if re.match(r"crates/\w+/specs/", path)]
+        self.specs = [Spec(path) for path in paths if SPEC.match(path)]
         self.names, self.words = {}, {spec.path: set(spec.places) for spec in self.specs}
         for path, text in self.texts.items():
             self.look(path, bare(text) if path.endswith(".antt") else re.sub(r"//.*", "", text))

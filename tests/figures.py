@@ -6,7 +6,7 @@ figures.py --bench       its words with the benchmark's counts, which bench/run 
 figures.py --uncovered   all of these; prints each line of a page with a figure that neither they nor tests/quotes.py nor
                          tests/cookbook.py check
 
-tests/figures.txt has words that a page must say. A figure stands there in braces, as an expression: {mostFilters + 1} is
+tests/figures.txt has words that a page must say. A figure stands there in braces, as an expression: {most_filters + 1} is
 one more than the definition has. Names in it are the numbers of the definitions (an `abbrev` of a file directly in specs),
 `crate.NAME` for a `const` of a crate, and what tests/values.py has. {..:word} and {..:Word} spell a figure out, {..:plain}
 leaves out the commas, and {..:.1f} is Python's; what is no number stands as it is. Where a page breaks its lines does not

@@ -49,7 +49,7 @@ def declared():
         yield "%s %s(%s);" % (RESULTS[result], name, ", ".join(in_c(fields)))
     code = "".join(read(path) for path in glob.glob(os.path.join(TOP, "crates/*/src/lib.rt")))
     for result, name in RESULTS.items():
-        fields = re.search(r"#\[repr\(C\)\]\npub struct %s \{(.*?)\}" % result, code, re.S).group(1)
+        fields = re.search(r"#\[repr\(C\)\]\n(?:#\[[^\n]*\]\n)*pub struct %s \{(.*?)\}" % result, code, re.S).group(1)
         yield "typedef struct { %s; } %s;" % ("; ".join(in_c(fields)), name)
 
 

@@ -3,7 +3,7 @@
 
 - crates.txt lists every crate and, for each, the crates that its files name and no other.
 - No line of a contract, and no line of code or comment beside it, has more than 120 columns.
-- Nothing is imported that the file does not name, and each need of a proof has its name behind it.
+- Nothing is imported that the file does not name. A function's proof is in Invariants.antt and Answers.antt, whose facts are goals by name.
 - Every link of a page leads to a file or a folder, and every heading that it names is there.
 - Each row of a table has as many cells as its head. A `|` between backticks ends a cell too, as it does where pages are shown.
 """
@@ -13,7 +13,7 @@ import re
 import sys
 
 TOP = os.path.dirname(os.path.dirname(os.path.abspath(__file__)))
-KIT = ["bytes", "check", "io", "libc", "os"]
+MADE = {"out", "target"}  # folders that rt and the scripts make
 WIDTH = 120
 
 
@@ -22,25 +22,29 @@ def read(path):
 
 
 def under(folder, *endings):
-    found = glob.glob(os.path.join(TOP, folder, "**"), recursive=True)
-    return sorted(os.path.relpath(p, TOP) for p in found if p.endswith(endings) and os.path.isfile(p))
+    found = [p for p in glob.glob(os.path.join(TOP, folder, "**"), recursive=True) if p.endswith(endings) and os.path.isfile(p)]
+    return sorted(p for p in (os.path.relpath(p, TOP) for p in found) if not MADE & set(p.split("/")))
 
 
 def listed():
     lines = [line for line in read("crates.txt").split("\n") if line and not line.startswith("#")]
-    return {name: words.split() for name, _, words in (line.partition(":") for line in lines)}
+    return {name.split()[0]: words.split() for name, _, words in (line.partition(":") for line in lines)}
 
 
 def named(crate, crates):
-    """The crates that the files of a crate name: in a path of a specification, or before `::` in code."""
+    """The crates that the files of a crate name: in a path of a specification, or before `::` in code.
+
+    Beside the crates of the tree these are the libraries of the kit that some line of crates.txt lists; std is everyone's.
+    """
+    known = set(crates).union(*crates.values())
     found = set()
     for path in under("crates/" + crate, ".antt", ".rt"):
         text = read(path)
-        found |= set(re.findall(r"Rattle·(\w+?)(?=[.·])", text))
+        found |= set(re.findall(r"\bRattle\.(\w+)\.", text))
         if path.endswith(".rt"):
             code = re.sub(r"//.*", "", text)
-            found |= {word for word in re.findall(r"(?<![\w:])(\w+)::", code) if word in crates or word in KIT}
-    return found - {crate}
+            found |= set(re.findall(r"(?<![\w:])(\w+)::", code)) & known
+    return found - {crate, "std"}
 
 
 def crates_as_listed():
@@ -62,15 +66,14 @@ def narrow():
                 yield "%s:%d: %d columns" % (path, number, len(line))
 
 
-IMPORT = re.compile(r"^(?:ghost )?use ([^\n{;]*?)(?:\.\{([^}]*)\})?( as [^\n;]+)?;?\n", re.M)
+IMPORT = re.compile(r"^(?:ghost )?use ([^\n{;]*?)(?:(?:\.|::)\{([^}]*)\})?( as [^\n;]+)?;?\n", re.M)
 
 
 def mentions(text, name):
     """Whether a text names something: an operator by its parts, anything else as a word."""
-    parts = [part for part in name.split("_") if part]
-    if name.startswith("_") or name.endswith("_"):
-        return all(part in text for part in parts)
-    return re.search(r"(?<![\w\-′·])" + re.escape(name) + r"(?![\w\-′])", text) is not None
+    if not re.search(r"\w", name) or "◌" in name:
+        return all(part in text for part in name.split("◌"))
+    return re.search(r"(?<![\w\-'])" + re.escape(name) + r"(?![\w\-'])", text) is not None
 
 
 def imports_named():
@@ -82,17 +85,13 @@ def imports_named():
             if not names:
                 words = [(alias.replace(" as ", "") or re.split(r"[.:]", place)[-1]).strip()]
             for word in words:
-                last = word.split(" as ")[-1]
-                last = last if last.startswith("_") else last.split(".")[-1]
-                if not mentions(rest, last):
+                if not mentions(rest, re.sub(r"^(?:\w+(?:\.|::))+", "", word.split(" as ")[-1])):
                     yield "%s: imports %s, which it does not name" % (path, word)
 
 
-def needs_named():
-    for path in [p for p in under("crates", "Proof.antt")]:
-        for number, line in enumerate(read(path).split("\n"), 1):
-            if re.match(r"    \(λ c( κs)?\. .*\)$", line):
-                yield "%s:%d: a need without its name" % (path, number)
+def proofs_by_goals():
+    for path in under("crates", "/Proof.antt"):
+        yield "%s: a function's proof is its invariants and its answers, in files of these names" % path
 
 
 def anchors(text):
@@ -101,7 +100,7 @@ def anchors(text):
 
 
 def pages():
-    return [path for path in under("", ".md") if not path.startswith("target")]
+    return under("", ".md")
 
 
 def links():
@@ -146,9 +145,9 @@ def end_if_wrong(who, wrong):
 
 def main():
     wrong = list(crates_as_listed()) + list(narrow()) + list(imports_named())
-    wrong += list(needs_named()) + list(links()) + list(tables())
+    wrong += list(proofs_by_goals()) + list(links()) + list(tables())
     end_if_wrong("house", wrong)
-    print("house: crates.txt, columns, imports, needs, links and tables are as they should be")
+    print("house: crates.txt, columns, imports, proofs, links and tables are as they should be")
 
 
 if __name__ == "__main__":

@@ -1,4 +1,4 @@
-"""The exported library, called from Python: target/staticlib/libexported.a, linked into a shared one for the while."""
+"""The exported library, called from Python: crates/exported/out/libexported.a, linked into a shared one for the while."""
 import ctypes
 import os
 import shlex
@@ -6,7 +6,7 @@ import subprocess
 import tempfile
 
 TOP = os.path.dirname(os.path.dirname(os.path.abspath(__file__)))
-ARCHIVE = os.path.join(TOP, "target/staticlib/libexported.a")
+ARCHIVE = os.path.join(TOP, "crates/exported/out/libexported.a")
 SIZE = ctypes.c_size_t
 CC = shlex.split(os.environ.get("CC") or "gcc")  # another compiler, with flags if need be
 

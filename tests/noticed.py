@@ -16,8 +16,8 @@ A fault is a few lines, with an empty line behind it:
     says: words that a line of what the check prints must hold
 
 Instead of a pair, `add: text` adds a line at the end of the file, and makes the file if there is none; `gone: yes` takes the file away.
-Each check must pass on the copy as it stands. `target` is a link to the tree's own, so a check may read what was proved and built
-there, and must not write to it.
+Each check must pass on the copy as it stands. `target` and each folder `out` of a crate are links to the tree's own, so a check may read
+what was proved and built there, and must not write to it.
 """
 import concurrent.futures
 import glob
@@ -31,8 +31,8 @@ import tempfile
 import threading
 
 TOP = os.path.dirname(os.path.dirname(os.path.abspath(__file__)))
-LIBRARY = "target/staticlib/libexported.a"
-LEFT_OUT = (".git", "target", "__pycache__")
+LIBRARY = "crates/exported/out/libexported.a"
+LEFT_OUT = (".git", "target", "out", "__pycache__")
 READS_TARGET = re.compile(r"LIBRARY|bench/run|tests/(?:assumed|commands|edits|figures|quotes)\.py")
 copies = threading.local()
 
@@ -58,7 +58,8 @@ def copy_of_tree():
     if not hasattr(copies, "path"):
         copies.path = os.path.join(tempfile.mkdtemp(dir=ROOM), "tree")
         shutil.copytree(TOP, copies.path, symlinks=True, ignore=shutil.ignore_patterns(*LEFT_OUT))
-        os.symlink(os.path.join(TOP, "target"), os.path.join(copies.path, "target"))
+        for made in ["target"] + [os.path.relpath(path, TOP) for path in glob.glob(os.path.join(TOP, "crates/*/out"))]:
+            os.symlink(os.path.join(TOP, made), os.path.join(copies.path, made))
     return copies.path
 
 

@@ -3,7 +3,7 @@
 
 In docs/PROMISES.md a name is one of these, and nothing else:
 
-    `crate.File.name`      a definition or a law in crates/crate/specs
+    `crate.File.name`      a definition in crates/crate/specs, or a law there or in crates/crate/proofs
     `crate::name`          a function, a method or a type of crates/crate/src; `name` alone where the page has it so, too
     `crate/label.edit`     a must-fail edit
     `crate`, a path        a crate of crates.txt, a file or a folder, perhaps with `python3` before it
@@ -13,30 +13,31 @@ The forms themselves and a few words of the languages are in OWN_WORDS.
 On the other pages names are shorter: a file without its folders, `File.name` without its crate, `Type::name`, or a text
 that stands in the source just so. In a path CRATE, NAME and * stand for anything. A command of Python names a script and
 words that stand in the source. What has no letter is a number or a sign; other notation that is no name is in NOTATION,
-page by page. Left out are the line of the toolchain, which ./test compares, and CHANGELOG.md, which has old names.
+page by page. Left out are the line of the toolchain, which ./test compares, and CHANGELOG.md and docs/PORT.md, which have old names.
 """
 import functools
 import glob
 import os
 import re
 
-from house import TOP, end_if_wrong, listed, read
+from house import MADE, TOP, end_if_wrong, listed, read
 from pages import texts
 
 PAGE = "docs/PROMISES.md"
-OWN_WORDS = {"CRATE.File.name", "CRATE::name", "CRATE/label.edit", "crates/CRATE/specs", "must-fail", "requires", "pub"}
-SOURCE = ["crates/**/*.antt", "crates/**/*.rt", "second/*.[ch]", "bench/*.[ch]", "tool/*.c", "include/*.h", "examples/**/*.[cr]*",
+OWN_WORDS = {"CRATE.File.name", "CRATE::name", "CRATE/label.edit", "crates/CRATE/specs", "crates/CRATE/proofs", "must-fail", "requires",
+             "pub"}
+SOURCE = ["crates/*/specs/**/*.antt", "crates/*/proofs/**/*.antt", "crates/*/src/**/*.rt", "second/*.[ch]", "bench/*.[ch]", "tool/*.c", "include/*.h", "examples/**/*.[cr]*",
           "tests/*.py", "second/*.py", "test", "run", "esquirmell", "tool/*.[ht]*", "*/check", "bench/run", "crates.txt"]
 NOTATION = {
     "README.md": {"small/day.bin: message 5, byte 9 (byte 168 of the file), 24: a start is not allowed here"},  # held by tests/commands.py
-    "CONTRIBUTING.md": {"was x", "left x", "# true: TEXT"},
+    "CONTRIBUTING.md": {"x.now", "x.old", "x.new", "# true: TEXT", "_lem", "proofs/F", "rt check --start F", "rt fmt", "rt tidy", "rt doc"},
     "second/README.md": {'LINK="-lpthread -ldl" second/check lib.a'},
     "docs/COMMAND.md": {"0 TRUE", "0 LEAF > 5", "0 AND 1 2", "0 OR 1 2", "0 NOT 1", "0 STEP 3 -> 1", "start 1", 'text "6"', "end 1",
                         "bytes 01 ff", r"\xHH", "STEP service -> 1", "start @day"},
     "docs/ARCHITECTURE.md": {"day_tally"},  # a crate of a later request
-    "docs/DECISIONS.md": {"endian"},  # a name that was not taken
-    "docs/HELP.md": {"λ r. ..", "f x y", "f (g x) y", "was x", "left x", "now x", "lent ..", "returned ..", "a ≡ b", "A × B",
-                     "A → B", "A ↔ B", "A → ⊥", "(n : ℕ) → A", "x .field", "a ∷ s", "s ++ t"},
+    "docs/DECISIONS.md": {"endian", "_lem"},  # a name that was not taken, and an ending
+    "docs/HELP.md": {"{ .. }", "f x y", "f (g x) y", "x.now", "x.old", "x.new", "lent ..", "returned ..", "a ≡ b",
+                     "A × B", "A → B", "A ↔ B", "A → ⊥", "(n : ℕ) → A", "x.field", "a ∷ s", "s ++ t", "get_or s i 0", "cpu="},
     "docs/RULES.md": {"OR 1 2",  # what follows is XPath
                       "//late", "//@day", "/service[call]", "/service[@day]/call/late", "/service/@day = 6", "/service[@day = 6]",
                       "not(/service/call)", "/service[not(call)]", "/service/call/late > 5 or not(/service/@day)",
@@ -63,7 +64,8 @@ def declared(form, pattern):
 
 def defined(crate, path, name):
     form = r"^\s*(?:unfoldable |abbrev |pub )*(?:data |record |ruleset )?(\S+)(?: |$)"
-    return name in declared(form, "crates/%s/specs/%s.antt" % (crate, path.replace(".", "/")))
+    places = ["crates/%s/%s/%s.antt" % (crate, folder, path.replace(".", "/")) for folder in ("specs", "proofs")]
+    return any(name in declared(form, place) for place in places)
 
 
 def function(crate, name):
@@ -75,9 +77,10 @@ def edit(crate, label):
 
 
 def is_path(path):
-    """Whether it leads to a file or a folder; below target it is not asked, which rt makes."""
+    """Whether it leads to a file or a folder; of what rt and the scripts make, below out and target, it is not asked."""
     shape = re.sub(r"\b(CRATE|NAME)\b", "*", path)
-    return path.startswith("target/") or ("/" in path or "." in path) and glob.glob(os.path.join(TOP, shape)) != []
+    made = MADE & set(path.split("/")[:-1])
+    return bool(made) or ("/" in path or "." in path) and glob.glob(os.path.join(TOP, shape)) != []
 
 
 def promised(name):
@@ -119,7 +122,7 @@ def on_a_page(page, name, source):
         return True
     if name.startswith("python3 "):
         return all(is_path(word) or stands_in(source, word) for word in name.split(" ")[1:])
-    near = ["", os.path.dirname(page), "crates", "crates/*", "crates/*/specs"]
+    near = ["", os.path.dirname(page), "crates", "crates/*", "crates/*/specs", "crates/*/proofs"]
     if any(is_path(os.path.join(place, name)) for place in near) or is_path("crates/*/must-fail/%s.edit" % name):
         return True
     found = re.fullmatch(r"((?:[A-Z]\w*\.)+)(\S+)", name)

@@ -298,10 +298,10 @@ def numbers_of(path, name):
 
 def orders():
     """The numbers that each call, and a message, can get, in the order of the checks."""
-    of_book, of_day = numbers_of("Book.antt", "bookChecks"), numbers_of("DayFile.antt", "dayChecks")
-    return {"book": of_book, "day": of_day, "run": of_book + of_day + numbers_of("Run.antt", "lentChecks"),
-            "question": numbers_of("Calls.antt", "questionChecks"), "counts": numbers_of("Calls.antt", "countChecks"),
-            "message": numbers_of("MessageTable.antt", "messageRows")}
+    of_book, of_day = numbers_of("Book.antt", "book_checks"), numbers_of("DayFile.antt", "day_checks")
+    return {"book": of_book, "day": of_day, "run": of_book + of_day + numbers_of("Run.antt", "lent_checks"),
+            "question": numbers_of("Calls.antt", "question_checks"), "counts": numbers_of("Calls.antt", "count_checks"),
+            "message": numbers_of("MessageTable.antt", "message_rows")}
 
 
 # Each list of refusals, and words before its table in docs/FORMATS.md and in docs/RULES.md.

@@ -19,7 +19,8 @@ from house import TOP, end_if_wrong, read, under
 TOOLS = ["bash", "cat", "date", "dirname", "env", "find", "flock", "grep", "head", "mkdir", "mktemp", "mv", "nice", "nproc", "python3",
          "realpath", "rm", "sed", "setsid", "sleep", "tail", "tee", "touch", "wc"]
 FILES = {
-    "crates.txt": "# remark: lists\nlists:\nrules: lists\nbook_check: lists rules\nexported: rules book_check io\nalone: lists\n",
+    "crates.txt": "# remark: lists\nlists:\nrules: lists\nexported staticlib: book_check rules csv\nbook_check: lists rules\nalone: lists\n",
+    "crates/exported/src/lib.rt": "", "crates/lists/out/kept": "",
     "crates/lists/src/lib.rt": "", "crates/lists/specs/Lists.antt": "", "crates/lists/must-fail/wrong.edit": "",
     "crates/alone/stdout": "", "crates/alone/data/book.bin": "",
     "include/esquirmell.h": "", "small/book.bin": "", "small/day.bin": "",
@@ -36,22 +37,28 @@ int main(int count, char **words) {
 """,
 }
 RT = r"""#!/usr/bin/env bash
-echo "$1" >>calls
+top=$(dirname "$0")/../room
+echo "$*" >>"$top/calls"
 case $1 in
-staticlib)
+lib)
+  [ "$PWD" -ef "$top/crates/exported" ] || exit 9
+  echo 'rt: chose --jobs 2 for lists'
   echo 'fn lists::clear: proved'
-  echo 'rt: lists proved (4 s)'
-  echo 'rt: rules proved (unchanged since it was last proved)'
-  [ ! -e refuse ] || { echo 'rt: book_check NOT PROVED (exit 1, 2 s)'; exit 1; }
-  echo 'rt: book_check proved (10 s)'
-  mkdir -p target/staticlib
-  printf '!<arch>\n' >target/staticlib/libexported.a
-  echo 'rt: target/staticlib/libexported.a has the functions of exported' ;;
+  echo 'rt: rules: begins with what a check kept in /elsewhere'
+  [ ! -e "$top/refuse" ] || { echo 'rt: the library book_check did not build, so nothing above it was checked' >&2; exit 1; }
+  echo 'rt: chose --jobs 4 for book_check'
+  echo 'rt: chose --jobs 2 for exported'
+  mkdir -p out
+  printf '!<arch>\n' >out/libexported.a ;;
 ci)
-  flock -n . true && echo free >>calls
+  [ "$PWD" -ef "$top" ] || exit 9
+  flock -n "$top" true && echo free >>"$top/calls"
   setsid sleep 60 >/dev/null 2>&1 &
-  echo $! >sleeper
-  exit 1 ;;
+  echo $! >"$top/sleeper"
+  [ -e "$top/well" ] || exit 1
+  echo 'rt: lists proved'
+  echo 'rt: rules is kept: an earlier run on this machine proved the same files over the same libraries'
+  cat "$top/well" ;;
 esac
 """
 WAITING = "waiting: ./test or another build is at work here"
@@ -93,7 +100,7 @@ class Room:
         return process.returncode, out, err
 
     def calls(self):
-        return open(self.at("calls")).read().split() if os.path.exists(self.at("calls")) else []
+        return open(self.at("calls"), encoding="utf-8").read().splitlines() if os.path.exists(self.at("calls")) else []
 
     def newer(self, name, than):
         """Gives a file a time right behind another's."""
@@ -149,7 +156,8 @@ def missing(room):
     status, _, err = room.ran("./run", CC="no-such-cc -O1")
     yield from differs("without a compiler", (status, err.split("\n")[-2]),
                        (2, "esquirmell: no-such-cc is missing; README.md says what a machine needs"))
-    shutil.rmtree(room.at("target"))
+    for built in ("target", "crates/exported/out"):
+        shutil.rmtree(room.at(built))
 
 
 def builds(room):
@@ -157,7 +165,8 @@ def builds(room):
     open(room.at("refuse"), "w").close()
     status, out, err = room.ran("./run")
     log = os.path.realpath(room.at("target/esquirmell.log"))
-    if (status, out) != (2, "") or log not in err or "rt: book_check NOT PROVED (exit 1, 2 s)" not in err.split("\n"):
+    refused = "rt: the library book_check did not build, so nothing above it was checked"
+    if (status, out) != (2, "") or log not in err or refused not in err.split("\n"):
         yield "a library that is not proved: it ends with %d and says '%s'" % (status, err)
     os.remove(room.at("refuse"))
     status, out, err = room.ran("./run", CC="gcc -DFLAG=7")
@@ -183,9 +192,9 @@ def words_handed_on(room):
 
 def rebuilds(room):
     """What is newer than the library or the command is built again, and wrong programs and printed lines are no part of them."""
-    library, before = "target/staticlib/libexported.a", len(room.calls())
+    library, before = "crates/exported/out/libexported.a", len(room.calls())
     for name in ("crates/lists/must-fail/wrong.edit", "crates/lists/must-fail", "crates/lists", "crates/alone/stdout",
-                 "crates/alone/data/book.bin"):
+                 "crates/alone/data/book.bin", "crates/lists/out/kept", "crates/lists/out"):
         room.newer(name, library)
         yield from differs("a change of " + name, (room.ran("./run", "a")[2], len(room.calls()) - before), ("", 0))
     for name in ("crates/lists/src/lib.rt", "crates/lists/specs", "crates.txt"):
@@ -224,8 +233,30 @@ def the_gate(room):
         out = process.communicate(timeout=60)[0]
     yield from differs("./test while another builds", said, "waiting: ./esquirmell or another ./test is at work here\n")
     yield from differs("what ./test ends with", (process.returncode, "FAILED: rt ci ended with status 1" in out), (1, True))
-    yield from differs("rt's calls by ./test", room.calls()[-3:], ["version", "fmt", "ci"])
+    yield from differs("rt's calls by ./test", room.calls()[-2:], ["version", "ci"])
     yield from differs("after ./test: a child of rt's is alive, and the lock is free", room.left_over(), (True, True))
+
+
+WELL = "rt: ok; handles allowed: none; must-fail edits: 12 refused, 1 of them only by a limit%s; every proof was done in this run"
+PASSED = "2 passed, 0 failed"
+
+
+def what_the_gate_reads(room):
+    """After rt ci: ./test fails where a crate failed, where an edit is bad or nothing is said of edits, and goes on where all is well."""
+    for last, words in ((["rt: FAILED: lists", "1 passed, 1 failed"], "rt ci closed with '1 passed, 1 failed'"),
+                        ([WELL % "", "0 passed, 0 failed"], "rt ci closed with '0 passed, 0 failed'"),
+                        ([PASSED], "rt ci has no line 'rt: ok'"),
+                        ([WELL % ", 11 bad", PASSED], "rt ci has bad edits: " + WELL % ", 11 bad")):
+        room.write("well", "\n".join(last) + "\n")
+        status, out, _ = room.ran("./test")
+        yield from differs("./test after %s" % last, (status, out.split("\n")[-2], room.calls()[-1]), (1, "FAILED: " + words, "ci"))
+        room.left_over()
+    room.write("well", "\n".join([WELL % "", PASSED]) + "\n")
+    status, out, _ = room.ran("./test")
+    yield from differs("./test where rt ci passes, and no other test is there", (status, PASSED in out, room.calls()[-1]), (1, False, "lib"))
+    said = open(room.at("target/ci.log"), encoding="utf-8").read().split("\n")
+    yield from differs("the end of target/ci.log", said[-3:], [WELL % "", PASSED, ""])
+    room.left_over()
 
 
 def one_word_for_cc():
@@ -249,7 +280,7 @@ def flags_taken(_):
 
 
 STEPS = [flags_taken, at_once, missing, builds, words_handed_on, rebuilds]
-LOCKED = [waits, the_gate]
+LOCKED = [waits, the_gate, what_the_gate_reads]
 
 
 def main():

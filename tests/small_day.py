@@ -105,15 +105,15 @@ EDGE_BOOK = book([
 LISTS = [
     ("book", "the filter book of \"A small day, whole\", 154 bytes", SMALL_BOOK),
     ("day", "its day file, 171 bytes", SMALL_DAY),
-    ("rangeEnds", "section \"On both sides\": a message for each range end", ENDS),
-    ("edgeBook", "id 1, /service[@day=6 and . > 5]; 2, /service[. != 0]; 3, /service/call/late >= 5; 4, /service/call/late > 5", EDGE_BOOK),
+    ("range_ends", "section \"On both sides\": a message for each range end", ENDS),
+    ("edge_book", "id 1, /service[@day=6 and . > 5]; 2, /service[. != 0]; 3, /service/call/late >= 5; 4, /service/call/late > 5", EDGE_BOOK),
     ("edges", "a call late by just 5; a service with an attribute and a text; with a word; with no text", EDGES),
 ]
 
 
 def antt():
     out = ["-- The bytes of the small day and of a few messages beside it, written by tests/small_day.py.",
-           "use mathlib.Core.List.{List, [], _∷_}", "use Prim.Native.Nat.{ℕ}", "pub mod Examples"]
+           "use Rattle.std.specs.Prelude.{List, [], ◌∷◌, ℕ}"]
     for name, what, data in LISTS:
         numbers = [str(b) for b in data]
         rows = [" ∷ ".join(numbers[i:i + 24]) for i in range(0, len(numbers), 24)]

@@ -158,8 +158,8 @@ def of_orders():
 def values():
     found = {**definitions(), **constants(), **of_orders(), **vars(small_day)}
     found.update({
-        "longestBook": 2 + found["entryWidth"] * found["mostFilters"] + found["stateWidth"] * found["mostStates"],
-        "second": of_case_h(), "stack": stack(), "house": house, "believed": believed.count(believed.follow()),
+        "longestBook": 2 + found["entry_width"] * found["most_filters"] + found["state_width"] * found["most_states"],
+        "second": of_case_h(), "stack": stack(), "house": house, "believed": believed.count(believed.follow()[0]),
         "size": lambda path: os.path.getsize(os.path.join(TOP, path)), "order": order, "len": len, "max": max,
         "small": SMALL, "messages": len(MESSAGES), "filters": len(ENTRIES), "entries": ENTRIES, "rows_alike": rows_alike(),
         "starts": {k: quotes.four(SMALL_DAY, 8 * k - 6) for k in MESSAGES},
