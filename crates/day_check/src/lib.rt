@@ -7,7 +7,8 @@
 
 ghost use Rattle.std.specs.Prelude.{◌≡◌, ◌+◌, ◌^◌, ◌<◌, ◌≤◌, length};
 ghost use Rattle.rules.specs.Bytes.{entry_at};
-ghost use Rattle.rules.specs.DayFile.{message_count, message_start, message_length, message_body, day_off, messages_astray};
+ghost use Rattle.rules.specs.DayFile.{message_count, message_start, message_length, message_body, day_off};
+ghost use Rattle.rules.specs.DayFile.{messages_astray};
 ghost use Rattle.rules.specs.DayFile.{day_refusal};
 ghost use Rattle.rules.specs.Promise.{DayPromise};
 

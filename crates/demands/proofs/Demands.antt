@@ -46,8 +46,8 @@ demand_2 {l} {g} {k} one = record {
       ∙ sym (Proofs.given_read m h other.promised other.accepted j other.within d);
 }
 
--- Messages 1 and 2 of the small day are such a pair. Message 1 with one label changed, read too (Pair.pair-read), is
--- none (Proofs.one-label says it of any tree).
+-- Messages 1 and 2 of the small day are such a pair. Message 1 with one label changed, read too (Pair.pair_read), is
+-- none (Proofs.one_label says it of any tree).
 pub small_pair : Permuted (root_of (meaning_of Small.book) small_one) (root_of (meaning_of Small.book) small_two) × (Permuted (root_of (meaning_of Small.book) small_one) (root_of (meaning_of Small.book) small_renamed) → ⊥)
 small_pair = (Pair.pair_reordered, λ p. Pair.renamed_apart p.1)
 

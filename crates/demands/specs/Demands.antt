@@ -1,10 +1,10 @@
--- The three demands: a record each, a field a sentence, and a theorem each: every outcome g which the run's promise
--- allows for what l lends has it. What must be believed is the records, and the definitions that they name:
+-- The three demands: a record each, a field a sentence. proofs/Demands.antt has a theorem each: every outcome g which
+-- the run's promise allows for what l lends has it. What must be believed is the records, and the definitions that they name:
 --   in this crate, specs/Words;
 --   in crate rules, specs/ ASmallDay, Bytes, State, Book, DayFile, Value, Written, Message, MessageTable, Tree, Match,
 --   Order, Sets, Memory, Pass, Asked, Run, Calls, Promise;
---   in crate lists, specs/ Choice, Parts, Below, Checks, Same, Lending.
--- Nothing in a folder behind one of these files need be believed, and nothing here after the last `=`: it is proof.
+--   in crate lists, specs/ Choice, Parts, Below, Checks, Same.
+-- Nothing in proofs/ need be believed.
 -- tests/believed.py follows the names, and counts.
 use mathlib.Core.{Path.◌≡◌, Bool.Bool, Bool.true, Logic.◌↔◌, List.List, List.[], List.◌++◌}
 use Rattle.std.specs.Prelude.{ℕ, ◌+◌, ◌*◌, ◌<◌, length, drop, replicate}
@@ -41,7 +41,7 @@ pub record Demand1 (l : Lent) (g : Returned) : Type 0 where
       ↔ (Begins (meaning l) (written_events evs) × FirstToFail (message_rows (meaning l) (opens_after root_alone evs) rest) n)
   -- And without the table: at a place exactly if the events before it begin some readable message, the message is none
   -- itself, and none begins with them and the event there. (Where no whole event stands there, which is 22 and 29, the
-  -- last part says nothing: a message cut short may begin a readable one. Of 21 see Place.no-kind.)
+  -- last part says nothing: a message cut short may begin a readable one. Of 21 see Place.no_kind.)
   pub refused_there : (k : ℕ) → MessageAnswered l g k → AreBytes l.day → (evs : List Event) (rest : List ℕ) →
       message_body l.day k ≡ written_events evs ++ rest →
       ((0 < refusal_of g k) × (place_for g k ≡ length (written_events evs)))

@@ -1,4 +1,4 @@
-// The public calls for other languages: built by `rt staticlib exported` and declared in include/esquirmell.h. Each
+// The public calls for other languages: built by `rt lib` in this folder, and declared in include/esquirmell.h. Each
 // hands its arguments on to a call of day_run, memory_question or book_filter_body, and has its promise. A slice is a
 // pointer and then a count.
 #![tactic(auto)]

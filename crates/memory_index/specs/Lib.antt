@@ -1,2 +1,2 @@
--- The index: what it is, then its laws in the order of need.
+-- The index: what it is. Its laws stand in proofs/.
 pub mod Index

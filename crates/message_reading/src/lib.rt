@@ -26,7 +26,8 @@ fn read_on(
 ) -> Ended
     requires can_read { CanRead plan.now index.old memory.old body.now from.counts }
     requires place_inside { (from.place ≤ length body.now) × HasLevel workspace.old from.depth }
-    ensures read_from { ReadFrom body.now (meaning_in plan.now) workspace.old memory.old from result workspace.new memory.new }
+    ensures read_from { ReadFrom body.now (meaning_in plan.now) workspace.old memory.old from
+        result workspace.new memory.new }
     ensures indexed { Indexed index.new memory.new result.counts.filled }
 {
     let mut s = from;

@@ -1,3 +1,3 @@
--- The wrong programs, and that no promise allows what they give.
+-- The wrong programs. That no promise allows what they give stands in proofs/.
 pub mod Runs
 pub mod Calls

@@ -1,6 +1,6 @@
 -- Section "What has to be nailed to the definitions": what each wrong program gives for three messages of the small
--- day, and that the run's promise does not allow it. All but the wrong part is as the run gives it, so it is this part
--- that is refused.
+-- day. All but the wrong part is as the run gives it, so it is this part that proofs/Runs.antt shows refused by the
+-- run's promise.
 use Rattle.std.specs.Prelude.{List, [], ◌∷◌, ◌++◌, ℕ, zero, suc, ◌+◌, ◌*◌, eqb, get_or, drop, replicate}
 use Rattle.lists.specs.Choice.{pick}
 use Rattle.lists.specs.Parts.{part}
