@@ -1,0 +1,5 @@
+use borrow.Author.Rules.{rules}
+use Rattle.exported.proofs.esquirmell_filter_body.Goals as goal
+
+pub returns : goal.returns
+returns c = c.part_of.ensures
