@@ -6,12 +6,12 @@ assumed.py [FOLDER]     reads what `rt ci` said, and `rt lib` in crates/exported
 
 Each form of an assumption was tried on a crate, and this is what the toolchain does with it:
 
-    `axiom f : A`, or a proof that rests on one; a hole                   `logic=not-proved`
+    `axiom f : A`; what rests on `lem` or `ac` of Prim.Axiom; a hole      `logic=not-proved`
     a function without a body, `#[trusted]`, `assume!`                    no such form
     `extern "C" { .. }` of the crate's own                                refused
     a C function of the kit's libc or os, called in a library             proved, and its last line does not say so: the lines `statements`
                                                                           then say that modules of libc or os were loaded
-    C functions that std reaches, by a handle, in a library               proved, for whatever handle is passed: its code names std
+    C functions that std reaches, by a handle, in a library               proved, for whatever handle is passed: its code names std or the handle
     the same in a program or a static library                             proved: lines `axioms NAME: ..`, and `axioms=`
     an earlier run's results, as `rt check` and `rt lib` take them        proved: `incremental=trusted`
 
