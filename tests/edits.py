@@ -5,13 +5,13 @@ edits.py [CRATE..]      every edit, or those of some crates
 edits.py --try FOLDER   logs made up to show nothing: each must be called wrong
 
 - Every line of an edit is applied, and its first line reads `# WRONG PROGRAM; refused at PLACE: FACT`.
-- `rt must-fail` says that the edit is refused, and not by a limit or for a name that is gone. It tells the first error; PLACE is where
-  that is: `File.name`, a law or an example of the crate, or a function and, between backticks, the goal of its proof.
-- That error shows a fact that is false: a goal that no proof was found for, or an equation whose two sides differ as far as
-  they compute. It is no error of scope, type or layout, it is not in the declaration that the edit wrote into, and it is not
-  that a proof has another shape than the code asks for. `rt must-fail` tells the beginning of an error alone, which says this of a
-  goal; an edit of a definition is put into a copy of its crate, and all that the prover says of it is read. What it said of the
-  same files is kept in target/tried.
+- `rt must-fail` says that the edit is refused, and not by a limit or for a name that is gone. An error is at PLACE: `File.name`, a
+  law or an example of the crate, or a function and, between backticks, the goal of its proof.
+- The first error, and that at PLACE, show a fact that is false: a goal that no proof was found for, or an equation whose two sides
+  differ as far as they compute. It is no error of scope, type or layout, it is not in the declaration that the edit wrote into, and
+  it is not that a proof has another shape than the code asks for.
+- `rt must-fail` tells the beginning of the first error alone. Where that is not enough, and at each edit of a definition, the edit
+  is put into a copy of its crate, and all that the prover says of it is read; it is kept in target/tried, by what it was said of.
 - Each edit is cited in docs/PROMISES.md, which says how many there are; as many were refused. Each library has one.
 """
 import concurrent.futures
@@ -121,7 +121,7 @@ def try_in(tree, edit):
 
 
 def logs(names):
-    """All that is said of each of these edits, which change definitions."""
+    """All that is said of each of these edits."""
     found, here = {edit: log_of(edit) for edit in names}, threading.local()
 
     def make(edit):
@@ -140,7 +140,7 @@ def logs(names):
     return {edit: read(path) for edit, path in found.items()}
 
 
-# ── where the first error is, and what it shows ──
+# ── where the errors are, and what they show ──
 def in_proof(crate, file, line, name):
     """The function of a proof file, and the goal at a line: the answer's name, or in a proof by hand the label behind it."""
     function = file.split("/")[-2]
@@ -165,18 +165,17 @@ def is_function(crate, file):
     return any(re.search(r"\bfn %s\b" % re.escape(parts[-2]), read(path)) for path in sources)
 
 
-def first_error(crate, log):
-    """The first error of a log: its place, its file and line if it is not in a function's proof, and what is said of it; None if there is none."""
-    found = ERROR.search(log)
-    if not found:
-        return None
-    file, line, name, _, source, at, _, goal = found.groups()
-    said = re.match(r"[^\n]*\n(?:  [^\n]*\n|note: what antt said[^\n]*\n)*", log[found.start():] + "\n").group(0)
-    if source:
-        return in_source(crate, source, int(at), goal), None, said
-    if is_function(crate, file):
-        return in_proof(crate, file, int(line), name), None, said
-    return ("%s.%s" % (file.split("/", 1)[1].replace("/", "."), name), None), (file + ".antt", int(line)), said
+def errors(crate, log):
+    """The errors of a log: the place of each, its file and line if it is not in a function's proof, and what is said of it."""
+    for found in ERROR.finditer(log):
+        file, line, name, _, source, at, _, goal = found.groups()
+        said = re.match(r"[^\n]*\n(?:  [^\n]*\n|note: what antt said[^\n]*\n)*", log[found.start():] + "\n").group(0)
+        if source:
+            yield in_source(crate, source, int(at), goal), None, said
+        elif is_function(crate, file):
+            yield in_proof(crate, file, int(line), name), None, said
+        else:
+            yield ("%s.%s" % (file.split("/", 1)[1].replace("/", "."), name), None), (file + ".antt", int(line)), said
 
 
 def shown(place):
@@ -214,15 +213,16 @@ def refused_there(edit, log):
     if not first:
         yield "%s.edit: its first line is not `# WRONG PROGRAM; refused at PLACE: FACT`" % edit
         return
-    error = first_error(edit.split("/")[0], log)
-    if not error:
+    found = list(errors(edit.split("/")[0], log))
+    if not found:
         yield "%s: no error of the prover in its log" % edit
         return
-    place, at, said = error
-    if place != first.groups()[1:3]:
-        yield "%s: refused at %s, and its first line says %s" % (edit, shown(place), shown(first.groups()[1:3]))
-    for words in shows_nothing(edit, at, said):
-        yield "%s: its first error %s: %s" % (edit, words, said[:300].replace("\n", " "))
+    there = [error for error in found if error[0] == first.groups()[1:3]][:1]
+    if not there:
+        yield "%s: refused at %s, and its first line says %s" % (edit, shown(found[0][0]), shown(first.groups()[1:3]))
+    for which, (_, at, said) in [("first error", found[0])] + [("error there", error) for error in there if error is not found[0]]:
+        for words in shows_nothing(edit, at, said):
+            yield "%s: its %s %s: %s" % (edit, which, words, said[:300].replace("\n", " "))
 
 
 def counted(names):
@@ -241,23 +241,15 @@ def without(names):
         yield "%s: a library with no edit" % crate
 
 
-def from_there(log, error):
-    """A log from the error on whose beginning `rt must-fail` tells: the order of errors may differ where several files have some."""
-    head = re.match(r"(?:note: )?\S+: error: (?:`[^`\s]+`)?|", error).group(0)
-    at = log.find(head)
-    return log[at:] if head and at >= 0 else log
-
-
 def refused(names):
     said = told()
-    there = [edit for edit in names if said.get(edit, "").startswith(REFUSED)]
-    whole = logs([edit for edit in there if is_definition(edit)])
+    there = {edit: said[edit][len(REFUSED):] for edit in names if said.get(edit, "").startswith(REFUSED)}
+    whole = logs([edit for edit, error in there.items() if is_definition(edit) or any(refused_there(edit, error))])
     for edit in names:
         if edit not in there:
             yield "%s: it was not tried and refused: %s" % (edit, said.get(edit, "nothing is said of it"))
         else:
-            error = said[edit][len(REFUSED):]
-            yield from refused_there(edit, from_there(whole[edit], error) if edit in whole else error)
+            yield from refused_there(edit, whole.get(edit, there[edit]))
 
 
 def tried(logs):
