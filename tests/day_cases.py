@@ -1,7 +1,7 @@
 #!/usr/bin/env python3
 """Runs the day program on both sides of each limit.
 
-day_cases.py                    target/bin/day_program
+day_cases.py                    crates/day_program/out/day_program, as rt ci and rt run build it
 day_cases.py PROGRAM            one that was built elsewhere
 day_cases.py PROGRAM WORD ..    an example that must print the same lines, called so where book.bin and day.bin are; it
                                 ends with status 1 if the run is not made
@@ -13,7 +13,7 @@ from program_cases import (CASES, EACH_BOOK, FULL_BOOK, SMALL_BOOK, SMALL_DAY, a
                            in_pieces, many, of_size, ran, refused)
 
 TOP = os.path.dirname(os.path.dirname(os.path.abspath(__file__)))
-PROGRAM = os.path.join(TOP, "target", "bin", "day_program")
+PROGRAM = os.path.join(TOP, "crates", "day_program", "out", "day_program")
 
 # What it lends and reads no more than, and a file that it can't read, which counts as empty.
 OWN = [

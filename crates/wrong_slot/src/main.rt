@@ -18,34 +18,39 @@
 ghost use Rattle.std.specs.Prelude.{◌*◌, ◌≤◌, length};
 ghost use Rattle.rules.specs.Memory.{slot_width};
 
-use libc::STDOUT_FILENO;
+use std::io;
 
 const FULL: u64 = 18446744073709551615;
 
-fn put(n: u64) {
-    io::write_all(STDOUT_FILENO, b" ");
-    io::print_decimal(STDOUT_FILENO, n);
+fn put(rt: &impl Print, n: u64) -> io::Result<()> {
+    print!(rt; " {n}")
 }
 
 // A line: a word and w's numbers at places from up to to.
-fn put_part(word: &[u8], w: &[u64], from: usize, to: usize)
+fn put_part(rt: &impl Print, word: &[u8], w: &[u64], from: usize, to: usize) -> io::Result<()>
     requires in_order { from ≤ to }
     requires inside { to ≤ length w.now }
 {
-    io::write_all(STDOUT_FILENO, word);
+    rt.write_all(word)?;
     let mut k = from;
     while k < to {
-        put(w[k]);
+        put(rt, w[k])?;
         k += 1;
     }
-    io::write_all(STDOUT_FILENO, b"\n");
+    println!(rt)
 }
 
-fn put_slots(memory: &[u64])
+fn put_slots(rt: &impl Print, memory: &[u64]) -> io::Result<()>
     requires { 2 * slot_width ≤ length memory.now }
 {
-    put_part(b"slot", memory, 0, memory_slots::SLOT);
-    put_part(b"slot", memory, memory_slots::SLOT, 2 * memory_slots::SLOT);
+    put_part(rt, b"slot", memory, 0, memory_slots::SLOT)?;
+    put_part(
+        rt,
+        b"slot",
+        memory,
+        memory_slots::SLOT,
+        2 * memory_slots::SLOT,
+    )
 }
 
 // The wrong answer in slot 1.
@@ -59,38 +64,39 @@ fn fill_it(memory: &mut [u64])
 }
 
 // The inner call, asked what slot 1 asks.
-fn ask_it(book: &[u8], memory: &mut [u64]) {
+fn ask_it(rt: &impl Print, book: &[u8], memory: &mut [u64]) -> io::Result<()> {
     let mut q = [0u64; memory_slots::QUESTION];
     q[memory_slots::LABEL] = 2;
     let mut answer = [0u64; set_bits::WIDTH];
     let r = memory_question::answer_question(book, memory, 1, 5, &q, &mut answer);
-    put_part(b"inner", &[r.refusal, r.anew, r.filled as u64], 0, 3);
-    put_part(b"answer", &answer, 0, set_bits::WIDTH);
+    put_part(rt, b"inner", &[r.refusal, r.anew, r.filled as u64], 0, 3)?;
+    put_part(rt, b"answer", &answer, 0, set_bits::WIDTH)
 }
 
 // The pass from the one filled slot.
-fn pass_it(book: &[u8], memory: &mut [u64]) {
+fn pass_it(rt: &impl Print, book: &[u8], memory: &mut [u64]) -> io::Result<()> {
     let day =
         b"\x01\x00\x0a\x00\x00\x00\x0c\x00\x00\x00\x01\x01\x00\x01\x02\x00\x03\x02\x00\x03\x01\x00";
     let mut answers = [9u64; day_row::ROW];
     let mut workspace = [5u64; message_levels::WORKSPACE];
     let r = day_run::pass_from(book, day, memory, &mut answers, &mut workspace, 0, 5, 1);
     put_part(
+        rt,
         b"pass",
         &[r.refusal, r.asked, r.anew, r.filled as u64],
         0,
         4,
-    );
-    put_part(b"row", &answers, 0, day_row::ROW);
+    )?;
+    put_part(rt, b"row", &answers, 0, day_row::ROW)
 }
 
-fn main() {
+fn main(rt: HostRuntime) -> io::Result<()> {
     let book =
         b"\x01\0\x0a\0\0\0\x0a\0\x03\0\x05\0\x01\0\x01\0\0\0\x05\0\x03\0\x02\0\0\0\0\0\0\0\0\0\0\0";
     let mut memory = [0u64; 2 * memory_slots::SLOT];
     fill_it(&mut memory);
-    ask_it(book, &mut memory);
-    put_slots(&memory);
-    pass_it(book, &mut memory);
-    put_slots(&memory);
+    ask_it(&rt, book, &mut memory)?;
+    put_slots(&rt, &memory)?;
+    pass_it(&rt, book, &mut memory)?;
+    put_slots(&rt, &memory)
 }
