@@ -3,8 +3,9 @@
  *     (cd crates/exported && rt lib)
  *     gcc -Iinclude program.c crates/exported/out/libexported.a -o program
  *
- * The library is for x86-64 and needs nothing but memset. examples/small.c is a
- * whole program; docs/FORMATS.md has the bytes of a book, a day file and a slot.
+ * The library is for x86-64 (level v2 and up) and needs nothing but memset.
+ * examples/small.c is a whole program; docs/FORMATS.md has the bytes of a book,
+ * a day file and a slot.
  *
  * What is lent. Each area is a pointer and a count: of bytes for a book and a
  * day file, of 64-bit numbers for everything else. What a caller must see to:

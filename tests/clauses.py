@@ -6,26 +6,28 @@
 
 The wrong forms are in tests/clauses.txt. Each is put into a copy of the tree, and the crate of the definition is checked: REFUSED with
 the law or example that refuses it first, UNNOTICED, or BAD EDIT where the wrong form is no definition (a scope, type or parse error in
-it), which shows nothing. Every `abbrev` and `unfoldable` definition of a door file of the two crates must have a wrong form. It is no
-part of the gate.
+it), which shows nothing. Every `abbrev` and `unfoldable` definition of a door file of the two crates must have a wrong form: a door is a
+file right in specs/, but for those of BEHIND, which hold words of proofs that no promise names. It is no part of the gate.
 """
 import glob
 import os
 import queue
 import re
 import shutil
-import subprocess
 import sys
 import tempfile
 import threading
 import time
 
-TOP = os.path.dirname(os.path.dirname(os.path.abspath(__file__)))
+import trees
+from house import TOP
+
 CRATES = ["rules", "lists"]
+BEHIND = {("rules", "Leading"), ("rules", "OneBit")}
 WORKERS = 2
 DECLARED = re.compile(r"\s*(?:abbrev |unfoldable |pub )+(?:data |record )?(\S+)")
 MUST = re.compile(r"\s*(?:abbrev|unfoldable) (?:pub )?(\S+) :")
-ERROR = re.compile(r"^\S*?/crates/\w+/specs/(\S+)\.antt:(\d+):\d+: error: (?:`([^`]+)`: )?(.*)", re.M)
+ERROR = re.compile(r"^\./(specs|proofs)/(\S+)\.antt:(\d+):\d+: error: (?:`([^`\s]+)`: )?(.*)", re.M)
 
 
 def read(path):
@@ -82,7 +84,7 @@ def forgotten(rows):
     for crate in CRATES:
         for path in sorted(glob.glob(door(TOP, crate, "*"))):
             name = os.path.basename(path)[: -len(".antt")]
-            for line in read(path).split("\n"):
+            for line in read(path).split("\n") if (crate, name) not in BEHIND else []:
                 must = MUST.match(line)
                 if must and (crate, name, must.group(1)) not in have:
                     yield "%s.%s.%s has no wrong form" % (crate, name, must.group(1))
@@ -99,67 +101,69 @@ def definitions():
     return names
 
 
-def run(tree, *words):
-    done = subprocess.run(["rt", *words], cwd=tree, capture_output=True, text=True)
-    return done.returncode, done.stdout + done.stderr
-
-
 def write(path, text):
     if read(path) != text:
         with open(path, "w", encoding="utf-8") as f:
             f.write(text)
 
 
+def examples(crate):
+    """The doors that have examples: for each the file that names them, and theirs, both below the crate's folder."""
+    found = {}
+    for part in ("specs", "proofs"):
+        for path in glob.glob(os.path.join(TOP, "crates", crate, part, "*", "Examples.antt")):
+            name = os.path.basename(os.path.dirname(path))
+            found[name] = os.path.join(part, name + ".antt"), os.path.join(part, name, "Examples.antt")
+    return found
+
+
 def own_examples(crate, name):
     """The doors whose examples are checked first with a change of this one: its own, and those that these name."""
-    found, new = set(), {name}
+    there, found, new = examples(crate), set(), {name}
     while new:
         found |= new
-        paths = [os.path.join(TOP, "crates", crate, "specs", n, "Examples.antt") for n in new]
-        new = {n for p in paths if os.path.exists(p) for n in re.findall(r"specs\.(\w+)\.Examples", read(p))} - found
+        texts = [read(os.path.join(TOP, "crates", crate, there[n][1])) for n in new if n in there]
+        new = {n for text in texts for n in re.findall(r"(?:specs|proofs)\.(\w+)\.Examples", text)} - found
     return found
 
 
 def left_out(tree, crate, names):
     """Leaves the examples of these doors out of the crate, and has those of all others in it."""
-    for path in glob.glob(door(TOP, crate, "*")):
-        name, text = os.path.basename(path)[: -len(".antt")], read(path)
-        examples = os.path.join("crates", crate, "specs", name, "Examples.antt")
-        if "pub mod Examples\n" not in text:
-            continue
+    here, there = (os.path.join(top, "crates", crate) for top in (tree, TOP))
+    for name, (names_them, file) in examples(crate).items():
+        text = read(os.path.join(there, names_them))
         if name in names:
             text = text.replace("pub mod Examples\n", "")
-            if os.path.exists(os.path.join(tree, examples)):
-                os.remove(os.path.join(tree, examples))
-        elif not os.path.exists(os.path.join(tree, examples)):
-            shutil.copy2(os.path.join(TOP, examples), os.path.join(tree, examples))
-        write(door(tree, crate, name), text)
+            if os.path.exists(os.path.join(here, file)):
+                os.remove(os.path.join(here, file))
+        elif not os.path.exists(os.path.join(here, file)):
+            shutil.copy2(os.path.join(there, file), os.path.join(here, file))
+        write(os.path.join(here, names_them), text)
 
 
 def without_others(tree, crate, name):
     """The examples of a door alone: a change that is not refused by these and the laws is tried with all."""
     stay = own_examples(crate, name)
-    doors = [os.path.basename(p)[: -len(".antt")] for p in glob.glob(door(TOP, crate, "*"))]
-    left_out(tree, crate, [n for n in doors if n not in stay])
+    left_out(tree, crate, [n for n in examples(crate) if n not in stay])
 
 
 def with_all(tree, crate):
     left_out(tree, crate, [])
 
 
-def checked(tree, row, check):
+def checked(tree, row):
     """The first error of a check with the wrong form in the file; None where there is none."""
     path = door(tree, row[0], row[1])
     text = read(path)
     write(path, changed(text, row)[0])
     try:
-        status, said = run(tree, check, row[0])
+        status, said = trees.check(tree, row[0])
     finally:
         write(path, text)
     if status == 0:
         return None
     first = ERROR.search(said)
-    return first.groups() if first else ("", "", None, said.strip().split("\n")[-1])
+    return first.groups() if first else ("", "", "", None, said.strip().split("\n")[-1])
 
 
 def verdict(tree, row, defined):
@@ -167,28 +171,17 @@ def verdict(tree, row, defined):
     fault = changed(read(door(TOP, crate, name)), row)[1]
     if fault:
         return "BAD EDIT", fault
-    first = checked(tree, row, "dev")
+    first = checked(tree, row)
     if not first:
         with_all(tree, crate)
-        first = checked(tree, row, "dev") or checked(tree, row, "check")
+        first = checked(tree, row)
         without_others(tree, crate, name)
     if not first:
         return "UNNOTICED", ""
-    file, line, declared, message = first
-    if declared is None or ("/" not in file and declared in defined):
-        return "BAD EDIT", "%s:%s: %s" % (file, line, message)
+    part, file, line, declared, message = first
+    if declared is None or (part == "specs" and "/" not in file and declared in defined):
+        return "BAD EDIT", "%s/%s:%s: %s" % (part, file, line, message)
     return "REFUSED", "%s:%s %s.%s.%s" % (file, line, crate, file.replace("/", "."), declared)
-
-
-def copied(folder):
-    tree = tempfile.mkdtemp(dir=folder)
-    for part in ("crates", "crates.txt", "target"):
-        whole = os.path.join(TOP, part)
-        if os.path.isdir(whole):
-            shutil.copytree(whole, os.path.join(tree, part))
-        elif os.path.exists(whole):
-            shutil.copy(whole, tree)
-    return tree
 
 
 def told(row, what, where, seconds):
@@ -222,9 +215,9 @@ def tried(rows):
     with tempfile.TemporaryDirectory() as folder:
         threads = []
         for _ in range(min(WORKERS, len(set(doors)))):
-            tree = copied(folder)
+            tree = trees.copied(CRATES, folder)
             for crate in CRATES:
-                status, said = run(tree, "dev", crate)
+                status, said = trees.check(tree, crate)
                 if status != 0:
                     sys.exit("crate %s is not proved as it stands:\n%s" % (crate, said))
             threads.append(threading.Thread(target=work, args=(tree,)))

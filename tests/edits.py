@@ -1,32 +1,43 @@
 #!/usr/bin/env python3
-"""Checks that each must-fail edit does what it says; run after `rt ci` or `rt must-fail`, whose logs it reads.
+"""Checks that each must-fail edit does what it says; run after `rt ci`, which tries each and keeps what became of it.
 
-edits.py                every edit
+edits.py [CRATE..]      every edit, or those of some crates
 edits.py --try FOLDER   logs made up to show nothing: each must be called wrong
 
 - Every line of an edit is applied, and its first line reads `# WRONG PROGRAM; refused at PLACE: FACT`.
-- PLACE is where the log's first error is: `File.name`, a law or an example of the crate's specs, or a function and, between backticks,
-  the need of its proof.
-- That error shows a fact that is false: a need that no proof was found for, or an equation whose two sides differ as far as
-  they compute. It is no error of scope, type or layout, it is not in the declaration that the edit wrote into, and it is not
-  that a proof has another shape than the code asks for.
+- `rt must-fail` says that the edit is refused, and not by a limit or for a name that is gone. An error is at PLACE: `File.name`, a
+  law or an example of the crate, or a function and, between backticks, the goal of its proof.
+- The first error, and that at PLACE, show a fact that is false: a goal that no proof was found for, or an equation whose two sides
+  differ as far as they compute. It is no error of scope, type or layout, it is not in the declaration that the edit wrote into, and
+  it is not that a proof has another shape than the code asks for.
+- `rt must-fail` tells the beginning of the first error alone. Where that is not enough, and at each edit of a definition, the edit
+  is put into a copy of its crate, and all that the prover says of it is read; it is kept in target/tried, by what it was said of.
 - Each edit is cited in docs/PROMISES.md, which says how many there are; as many were refused. Each library has one.
 """
+import concurrent.futures
 import glob
+import hashlib
 import os
 import re
+import subprocess
 import sys
+import tempfile
+import threading
 
+import trees
 from house import TOP, end_if_wrong
 
 PAGE = "docs/PROMISES.md"
-LOGS = "target/must-fail"
+LOGS = os.path.join(TOP, "target/tried")
+JOBS = 2
 COUNT = re.compile(r"(\d+) wrong programs and definitions")
 FIRST = re.compile(r"# (.+); refused at ([\w./-]+)(?: `([\w-]+)`)?: (.+)")
+TOLD = re.compile(r"^rt: must-fail (\w+/[\w.-]+)\.edit: (.*)$", re.M)
+REFUSED = "refused, as it must be: "
 # The prover's error at a place of a specification or a proof file, or at a function whose proof the toolchain makes by itself.
-ERROR = re.compile(r"^\S*?/((?:specs|proofs)/\S+)\.antt:(\d+):\d+: error: (?:`([^`\s]+)`: )?(.*)$"
-                   r"|^note: \S*?/(src/\S+\.rt):(\d+):\d+: (it is not proved that .*) \(`([\w-]+)`\)$", re.M)
-NO_PROOF = re.compile(r"`(?:search|cc|omega)`: (?:no proof|the goal)|it is not proved that "
+ERROR = re.compile(r"^(?:note: )?(?:\./)?((?:specs|proofs)/\S+)\.antt:(\d+):\d+: error: (?:`([^`\s]+)`: )?(.*)$"
+                   r"|^note: (?:\./)?(src/\S+\.rt):(\d+):\d+: (it is not proved that .*?) \(`([\w-]+)`\)(?:;.*)?$", re.M)
+NO_PROOF = re.compile(r"`(?:search|cc|omega|grind)`: (?:no proof|the goal)|it is not proved that "
                       r"|must be a path whose two ends are equal, and .* is none", re.S)
 TWO_SIDES = re.compile(r"the two (?:types|values) (?:first )?(?:differ|are)")
 EQUATION = re.compile(r"but this has type `[^\n]*(?:≡|Path )")
@@ -37,9 +48,10 @@ def read(path):
     return open(os.path.join(TOP, path), encoding="utf-8", errors="replace").read()
 
 
-def edits():
+def edits(crates=()):
     found = glob.glob(os.path.join(TOP, "crates/*/must-fail/*.edit"))
-    return sorted("%s/%s" % (p.split("/")[-3], os.path.basename(p)[: -len(".edit")]) for p in found)
+    names = sorted("%s/%s" % (p.split("/")[-3], os.path.basename(p)[: -len(".edit")]) for p in found)
+    return [name for name in names if not crates or name.split("/")[0] in crates]
 
 
 def lines_of(edit):
@@ -57,33 +69,113 @@ def applied(edit):
         yield "%s.edit: `old:` and `new:` are not in turn" % edit
 
 
+def is_definition(edit):
+    return any(line.startswith("file: specs/") for line in lines_of(edit))
+
+
+def changed(edit):
+    """The files that an edit changes, each with its new text."""
+    crate, texts, file, old = edit.split("/")[0], {}, None, None
+    for line in lines_of(edit):
+        if line.startswith("file: "):
+            file = "crates/%s/%s" % (crate, line[len("file: "):])
+            texts.setdefault(file, read(file))
+        elif line.startswith("old: "):
+            old = line[len("old: "):]
+        elif line.startswith("new: "):
+            texts[file] = texts[file].replace(old, line[len("new: "):])
+    return texts
+
+
+# ── what the toolchain said ──
+def told():
+    """What `rt must-fail` says of each edit, beginning with what became of it."""
+    done = subprocess.run(["rt", "must-fail"], cwd=TOP, stdin=subprocess.DEVNULL, stdout=subprocess.PIPE, stderr=subprocess.STDOUT,
+                          text=True, errors="replace")
+    return dict(TOLD.findall(done.stdout))
+
+
+def log_of(edit):
+    """Where all that is said of an edit is kept: by the toolchain, the crate with those below it, and what the edit makes of its files."""
+    crate, whole = edit.split("/")[0], hashlib.sha256()
+    whole.update(subprocess.run(["rt", "version"], capture_output=True).stdout)
+    for name in sorted(trees.below(crate)):
+        for part in ("src", "specs", "proofs"):
+            for path in sorted(glob.glob(os.path.join(TOP, "crates", name, part, "**", "*.*t*"), recursive=True)):
+                whole.update(("%s\n%s\n" % (os.path.relpath(path, TOP), read(path))).encode())
+    whole.update(repr(sorted(changed(edit).items())).encode())
+    return os.path.join(LOGS, crate, "%s.%s.log" % (edit.split("/")[1], whole.hexdigest()[:16]))
+
+
+def try_in(tree, edit):
+    """All that a check says of the crate with an edit, in a copy of it that is set right afterwards."""
+    texts = changed(edit)
+    for file, text in texts.items():
+        with open(os.path.join(tree, file), "w", encoding="utf-8") as f:
+            f.write(text)
+    _, said = trees.check(tree, edit.split("/")[0])
+    for file in texts:
+        with open(os.path.join(tree, file), "w", encoding="utf-8") as f:
+            f.write(read(file))
+    return said
+
+
+def logs(names):
+    """All that is said of each of these edits."""
+    found, here = {edit: log_of(edit) for edit in names}, threading.local()
+
+    def make(edit):
+        crate = edit.split("/")[0]
+        kept = here.__dict__.setdefault("trees", {})
+        if crate not in kept:
+            kept[crate] = trees.copied([crate], room)
+        said = try_in(kept[crate], edit)
+        os.makedirs(os.path.dirname(found[edit]), exist_ok=True)
+        with tempfile.NamedTemporaryFile("w", encoding="utf-8", dir=os.path.dirname(found[edit]), delete=False) as f:
+            f.write(said)
+        os.replace(f.name, found[edit])
+
+    with tempfile.TemporaryDirectory() as room, concurrent.futures.ThreadPoolExecutor(JOBS) as pool:
+        list(pool.map(make, [edit for edit in names if not os.path.exists(found[edit])]))
+    return {edit: read(path) for edit, path in found.items()}
+
+
+# ── where the errors are, and what they show ──
 def in_proof(crate, file, line, name):
-    """The function of a proof file, and the need at a line: the label behind it, or the lemma that stands for it."""
+    """The function of a proof file, and the goal at a line: the answer's name, or in a proof by hand the label behind it."""
     function = file.split("/")[-2]
-    if name != function.replace("_", "-") + "-spec":
+    if name != function + "_spec":
         return function, name
     below = "\n".join(read("crates/%s/%s.antt" % (crate, file)).split("\n")[line - 1:])
     label = re.search(r"  -- ([\w-]+)$", below, re.M)
     return function, label.group(1) if label else name
 
 
-def in_source(crate, file, line, need):
+def in_source(crate, file, line, goal):
     above = "\n".join(read("crates/%s/%s" % (crate, file)).split("\n")[:line])
-    return re.findall(r"\bfn (\w+)", above)[-1], need
+    return re.findall(r"\bfn (\w+)", above)[-1], goal
 
 
-def first_error(crate, log):
-    """The first error of a log: its place, its file and line if in a specification, and what is said of it; None if there is none."""
-    found = ERROR.search(log)
-    if not found:
-        return None
-    file, line, name, _, source, at, _, need = found.groups()
-    said = re.match(r"[^\n]*\n(?:  [^\n]*\n|note: what antt said[^\n]*\n)*", log[found.start():] + "\n").group(0)
-    if source:
-        return in_source(crate, source, int(at), need), None, said
-    if file.startswith("specs/"):
-        return ("%s.%s" % (file[len("specs/"):].replace("/", "."), name), None), (file + ".antt", int(line)), said
-    return in_proof(crate, file, int(line), name), None, said
+def is_function(crate, file):
+    """Whether a proof file is that of a function: it stands in a folder with the name of one."""
+    parts = file.split("/")
+    if parts[-1] not in ("Answers", "Invariants", "Proof"):
+        return False
+    sources = glob.glob(os.path.join(TOP, "crates", crate, "src", "**", "*.rt"), recursive=True)
+    return any(re.search(r"\bfn %s\b" % re.escape(parts[-2]), read(path)) for path in sources)
+
+
+def errors(crate, log):
+    """The errors of a log: the place of each, its file and line if it is not in a function's proof, and what is said of it."""
+    for found in ERROR.finditer(log):
+        file, line, name, _, source, at, _, goal = found.groups()
+        said = re.match(r"[^\n]*\n(?:  [^\n]*\n|note: what antt said[^\n]*\n)*", log[found.start():] + "\n").group(0)
+        if source:
+            yield in_source(crate, source, int(at), goal), None, said
+        elif is_function(crate, file):
+            yield in_proof(crate, file, int(line), name), None, said
+        else:
+            yield ("%s.%s" % (file.split("/", 1)[1].replace("/", "."), name), None), (file + ".antt", int(line)), said
 
 
 def shown(place):
@@ -121,15 +213,16 @@ def refused_there(edit, log):
     if not first:
         yield "%s.edit: its first line is not `# WRONG PROGRAM; refused at PLACE: FACT`" % edit
         return
-    error = first_error(edit.split("/")[0], log)
-    if not error:
+    found = list(errors(edit.split("/")[0], log))
+    if not found:
         yield "%s: no error of the prover in its log" % edit
         return
-    place, at, said = error
-    if place != first.groups()[1:3]:
-        yield "%s: refused at %s, and its first line says %s" % (edit, shown(place), shown(first.groups()[1:3]))
-    for words in shows_nothing(edit, at, said):
-        yield "%s: its first error %s: %s" % (edit, words, said[:300].replace("\n", " "))
+    there = [error for error in found if error[0] == first.groups()[1:3]][:1]
+    if not there:
+        yield "%s: refused at %s, and its first line says %s" % (edit, shown(found[0][0]), shown(first.groups()[1:3]))
+    for which, (_, at, said) in [("first error", found[0])] + [("error there", error) for error in there if error is not found[0]]:
+        for words in shows_nothing(edit, at, said):
+            yield "%s: its %s %s: %s" % (edit, which, words, said[:300].replace("\n", " "))
 
 
 def counted(names):
@@ -149,12 +242,14 @@ def without(names):
 
 
 def refused(names):
+    said = told()
+    there = {edit: said[edit][len(REFUSED):] for edit in names if said.get(edit, "").startswith(REFUSED)}
+    whole = logs([edit for edit, error in there.items() if is_definition(edit) or any(refused_there(edit, error))])
     for edit in names:
-        verdict = os.path.join(TOP, LOGS, edit + ".res")
-        if not os.path.exists(verdict) or read(verdict).strip() != "refused":
-            yield "%s: it was not tried and refused" % edit
+        if edit not in there:
+            yield "%s: it was not tried and refused: %s" % (edit, said.get(edit, "nothing is said of it"))
         else:
-            yield from refused_there(edit, read("%s/%s/.log" % (LOGS, edit)))
+            yield from refused_there(edit, whole.get(edit, there[edit]))
 
 
 def tried(logs):
@@ -176,9 +271,13 @@ def try_logs(folder):
 def main():
     if sys.argv[1:2] == ["--try"]:
         return try_logs(sys.argv[2])
-    names = edits()
-    wrong = [line for edit in names for line in applied(edit)] + list(counted(names)) + list(without(names)) + list(refused(names))
+    names = edits(sys.argv[1:])
+    wrong = [line for edit in names for line in applied(edit)]
+    if not sys.argv[1:]:
+        wrong += list(counted(names)) + list(without(names))
+    # what is wrong without a try is told without one
     end_if_wrong("edits", wrong if names else ["there is no edit"])
+    end_if_wrong("edits", list(refused(names)))
     print("edits: %d wrong programs and definitions, each refused at the fact that it names" % len(names))
 
 

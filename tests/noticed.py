@@ -16,8 +16,9 @@ A fault is a few lines, with an empty line behind it:
     says: words that a line of what the check prints must hold
 
 Instead of a pair, `add: text` adds a line at the end of the file, and makes the file if there is none; `gone: yes` takes the file away.
-Each check must pass on the copy as it stands. `target` and each folder `out` of a crate are links to the tree's own, so a check may read
-what was proved and built there, and must not write to it.
+Each check must pass on the copy as it stands. `target` is a link to the tree's own, so a check may read what was said there, and must write
+to it nothing that is true of a faulty tree alone. Of the folder `out` of a crate the copy has the files, which rt built, and not the folders
+with what rt keeps for itself; with --tree it has none of them.
 """
 import concurrent.futures
 import glob
@@ -32,7 +33,7 @@ import threading
 
 TOP = os.path.dirname(os.path.dirname(os.path.abspath(__file__)))
 LIBRARY = "crates/exported/out/libexported.a"
-LEFT_OUT = (".git", "target", "out", "__pycache__")
+LEFT_OUT = (".git", "target", "__pycache__")
 READS_TARGET = re.compile(r"LIBRARY|bench/run|tests/(?:assumed|commands|edits|figures|quotes)\.py")
 copies = threading.local()
 
@@ -53,13 +54,19 @@ def only(fault, word):
     return found[0]
 
 
+def left_out(folder, names):
+    """What a copy of the tree lacks."""
+    kept = os.path.basename(folder) == "out"
+    return [name for name in names if name in LEFT_OUT or kept and os.path.isdir(os.path.join(folder, name))
+            or name == "out" and sys.argv[1:] == ["--tree"]]
+
+
 def copy_of_tree():
     """A copy of the tree for this thread, made once and set right after each fault."""
     if not hasattr(copies, "path"):
         copies.path = os.path.join(tempfile.mkdtemp(dir=ROOM), "tree")
-        shutil.copytree(TOP, copies.path, symlinks=True, ignore=shutil.ignore_patterns(*LEFT_OUT))
-        for made in ["target"] + [os.path.relpath(path, TOP) for path in glob.glob(os.path.join(TOP, "crates/*/out"))]:
-            os.symlink(os.path.join(TOP, made), os.path.join(copies.path, made))
+        shutil.copytree(TOP, copies.path, symlinks=True, ignore=left_out)
+        os.symlink(os.path.join(TOP, "target"), os.path.join(copies.path, "target"))
     return copies.path
 
 

@@ -1,7 +1,7 @@
 #!/usr/bin/env python3
 """Shows that an edit of a definition or a statement is refused for what it says, and not because a text was changed.
 
-restated.py [CRATE..]   proves each crate with the true forms of its edits; run after `rt ci`, whose libraries it takes
+restated.py [CRATE..]   proves each crate with the true forms of its edits, over what earlier checks kept
 restated.py --lines     looks at the lines alone, with no prover
 
 In an edit of a file under specs/, a line `# true: TEXT` stands behind each `new: ` line: a true form in the same place, changed as the
@@ -11,12 +11,12 @@ for those that change the same words, which go into another copy. Each copy must
 import concurrent.futures
 import glob
 import os
+import re
 import resource
-import shutil
-import subprocess
 import sys
 import tempfile
 
+import trees
 from house import TOP, end_if_wrong
 
 JOBS = 2
@@ -83,45 +83,20 @@ def groups(names):
     return found
 
 
-def below(crate):
-    """The crates that a crate builds on, itself included."""
-    lines = dict(line.split(":") for line in read(os.path.join(TOP, "crates.txt")).split("\n") if line and line[0] != "#")
-    reached, todo = set(), [crate]
-    while todo:
-        name = todo.pop()
-        if name in lines and name not in reached:
-            reached.add(name)
-            todo += lines[name].split()
-    return reached
-
-
-def copied(crate, room):
-    """A folder with the crate, those that it builds on, and what is proved of them."""
-    tree = tempfile.mkdtemp(dir=room)
-    shutil.copy(os.path.join(TOP, "crates.txt"), tree)
-    for name in below(crate):
-        shutil.copytree(os.path.join(TOP, "crates", name), os.path.join(tree, "crates", name))
-        if name != crate and os.path.exists(os.path.join(TOP, "target/stamp", name)):
-            shutil.copytree(os.path.join(TOP, "target/rlib", name + ".rlib"), os.path.join(tree, "target/rlib", name + ".rlib"))
-            os.makedirs(os.path.join(tree, "target/stamp"), exist_ok=True)
-            shutil.copy(os.path.join(TOP, "target/stamp", name), os.path.join(tree, "target/stamp"))
-    return tree
-
-
 def proved(group, room):
     """What the prover says of a copy with these true forms: nothing, if it is proved."""
     crate, there = group
-    tree = copied(crate, room)
+    tree = trees.copied([crate], room)
     for file, start, end, true in sorted(there, key=lambda change: -change[1]):
         path = os.path.join(tree, "crates", crate, file)
         text = read(path)
         with open(path, "w", encoding="utf-8") as f:
             f.write(text[:start] + true + text[end:])
-    done = subprocess.run(["rt", "check", crate], cwd=tree, capture_output=True, text=True, errors="replace")
-    if done.returncode == 0:
+    status, said = trees.check(tree, crate)
+    if status == 0:
         return []
-    errors = [line.replace(tree + "/", "") for line in done.stdout.split("\n") if ": error: " in line]
-    return ["%s is not proved with true forms: %s" % (crate, (errors or [done.stdout[-300:] + done.stderr[-300:]])[0])]
+    errors = [line for line in said.split("\n") if re.match(r"(note: )?\S+:\d+:\d+: |error", line)]
+    return ["%s is not proved with true forms: %s" % (crate, (errors or [said[-300:]])[0])]
 
 
 def main():
