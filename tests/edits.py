@@ -123,20 +123,19 @@ def try_in(tree, edit):
 def logs(names):
     """All that is said of each of these edits."""
     found, here = {edit: log_of(edit) for edit in names}, threading.local()
+    lacking = [edit for edit in names if not os.path.exists(found[edit])]
 
     def make(edit):
-        crate = edit.split("/")[0]
-        kept = here.__dict__.setdefault("trees", {})
-        if crate not in kept:
-            kept[crate] = trees.copied([crate], room)
-        said = try_in(kept[crate], edit)
+        if not hasattr(here, "tree"):
+            here.tree = trees.copied({edit.split("/")[0] for edit in lacking}, room)
+        said = try_in(here.tree, edit)
         os.makedirs(os.path.dirname(found[edit]), exist_ok=True)
         with tempfile.NamedTemporaryFile("w", encoding="utf-8", dir=os.path.dirname(found[edit]), delete=False) as f:
             f.write(said)
         os.replace(f.name, found[edit])
 
     with tempfile.TemporaryDirectory() as room, concurrent.futures.ThreadPoolExecutor(JOBS) as pool:
-        list(pool.map(make, [edit for edit in names if not os.path.exists(found[edit])]))
+        list(pool.map(make, lacking))
     return {edit: read(path) for edit, path in found.items()}
 
 
