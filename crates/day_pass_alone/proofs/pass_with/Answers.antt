@@ -7,12 +7,12 @@ make-long-requires c = (search rules, search rules)
 
 pub pass-requires : goal.pass-requires
 pass-requires c = record {
-      reads = search rules;
-      laid = search rules;
-      planned = search (plan_lent, rules);
-      indexed = search rules;
-      rows = search rules;
-      levels = search rules;
-      asked_few = search rules;
-      anew_few = search rules;
-    }
+  reads = search rules;
+  laid = search rules;
+  planned = search (plan_lent, rules);
+  indexed = search rules;
+  rows = search rules;
+  levels = search rules;
+  asked_few = search rules;
+  anew_few = search rules;
+}
