@@ -3,7 +3,7 @@ use Rattle.std.specs.Prelude.{◌≡◌, refl, eqb, length, replicate}
 use Rattle.std.proofs.Common.{sym, ◌∙◌, add-one, length-append, take_at, drop_at, drop-drop, ne_eqb}
 use Rattle.std.proofs.Math.Path.{ap}
 use mathlib.Core.List.{List, [], ◌∷◌, ◌++◌, append_assoc}
-use Prim.Native.Nat.{ℕ, suc, ◌+◌, ◌-◌, ◌*◌, ◌<◌, ◌≤◌}
+use Prim.Native.Nat.{ℕ, suc, ◌+◌, ◌*◌, ◌<◌, ◌≤◌}
 use native.Mathlib.Omega.{arith}
 use Rattle.std.proofs.Math.Decide.{ℕ_discrete}
 use Rattle.std.proofs.Math.ListN.{drop}

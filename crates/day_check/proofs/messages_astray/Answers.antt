@@ -1,6 +1,5 @@
 use borrow.Author.Rules.{rules}
-use Prim.Native.Nat.{◌-◌}
-use Rattle.day_check.specs.Steps.{Placed, placed_none, placed_next, placed_hit, placed_all}
+use Rattle.day_check.specs.Steps.{placed_none, placed_next, placed_hit, placed_all}
 use Rattle.day_check.proofs.messages_astray.Goals as goal
 
 pub loop-k-init : goal.loop-k-init

@@ -1,5 +1,5 @@
 use Prim.Native.Nat.{◌-◌}
-use Rattle.day_check.specs.Steps.{Placed, placed_none, placed_next, placed_hit, placed_all}
+use Rattle.day_check.specs.Steps.{Placed}
 use Rattle.day_check.proofs.messages_astray.Given as goal
 
 abbrev pub invariant-loop-k : goal.invariant-loop-k

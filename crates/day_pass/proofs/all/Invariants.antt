@@ -1,5 +1,4 @@
-use Rattle.day_check.specs.DayAccepted.{day_two}
-use Rattle.day_pass.specs.Passing.{Passing, passing_none, passing_there, passing_room, passing_levels, passing_asked, passing_anew, passing_more, passing_all}
+use Rattle.day_pass.specs.Passing.{Passing}
 use Prim.Native.Nat.{◌-◌}
 use Rattle.day_pass.proofs.all.Given as goal
 

@@ -1,5 +1,4 @@
 use Rattle.day_pass.specs.Passing.{message_written}
-use borrow.Author.Rules.{rules}
 use Rattle.day_pass.proofs.one.Goals as goal
 
 pub returns : goal.returns

@@ -1,5 +1,4 @@
 use Rattle.day_run.specs.Laws.{from_accepts, from_refuses, from_passes}
-use borrow.Author.Rules.{rules}
 use Rattle.day_run.proofs.pass_from.Goals as goal
 
 pub returns-then-refusal-ne0 : goal.returns-then-refusal-ne0

@@ -1,5 +1,4 @@
 use Rattle.day_run.specs.Laws.{run_accepts, run_refuses, run_passes}
-use borrow.Author.Rules.{rules}
 use Rattle.day_run.proofs.run.Goals as goal
 
 pub returns-then-no-ne0 : goal.returns-then-no-ne0

@@ -1,4 +1,3 @@
-use borrow.Author.Rules.{rules}
 use Rattle.exported.proofs.esquirmell_filter_body.Goals as goal
 
 pub returns : goal.returns

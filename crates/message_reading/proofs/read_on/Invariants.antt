@@ -1,4 +1,4 @@
-use Rattle.message_reading.specs.Outcomes.{ReadingOn, reading_none, reading_level, reading_asks, reading_next, reading_bad, reading_less, reading_end, reading_index, indexed_bad}
+use Rattle.message_reading.specs.Outcomes.{ReadingOn}
 use Prim.Native.Nat.{◌-◌}
 use lib.ListN.{length}
 use Rattle.message_reading.proofs.read_on.Given as goal
