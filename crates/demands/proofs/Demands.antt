@@ -1,16 +1,13 @@
 -- The three demands hold of every outcome which the run's promise allows: a theorem each. specs/Demands.antt states them.
-use mathlib.Core.{Path.◌≡◌, Path.refl, Path.sym, Path.◌∙◌, Path.ap, Path.ap₂, Bool.Bool, Bool.true, Logic.◌↔◌, List.List, List.[], List.◌++◌}
-use Rattle.std.specs.Prelude.{ℕ, ◌+◌, ◌*◌, ◌<◌, length, drop, replicate}
-use Rattle.lists.specs.Checks.{FirstToFail}
-use Rattle.rules.specs.{State.State, Book.filter_count, Book.states_before, Book.states_of, Book.Meaning, Book.meaning_of, DayFile.message_count, DayFile.message_body}
-use Rattle.rules.specs.{Tree.Content, Match.matches, Match.accepted_filters, Match.MatchRule, Message.Event, MessageTable.root_alone, MessageTable.opens_after, MessageTable.message_rows}
-use Rattle.rules.specs.{Written.written, Written.message_shaped, Written.AreBytes, Written.written_events, Written.IsMessage, Written.Begins, Written.Stuck}
-use Rattle.rules.specs.{Sets.bit_at, Sets.Question, Sets.either, Memory.slot_width, Memory.FirstToAsk, Memory.slot_answer, Memory.slots_written, Memory.Kept, Memory.ask}
-use Rattle.rules.specs.{Pass.Carried, Pass.asking, Pass.pass_to, Pass.pass_questions_to, Pass.after_asking, Run.row_width, Run.workspace_width, Run.Lent, Run.Returned, Run.run_checks, Run.run, Run.with_memory, Promise.RunPromise, Promise.one_run}
-use Rattle.rules.specs.{Asked.message_row, Asked.not_kept, Asked.HeldRight, Asked.nodes_to, Asked.day_nodes}
+use mathlib.Core.{Path.refl, Path.sym, Path.◌∙◌, Path.ap, Path.ap₂}
+use Rattle.std.specs.Prelude.{ℕ}
+use Rattle.rules.specs.{Book.meaning_of, DayFile.message_body}
+use Rattle.rules.specs.{Sets.bit_at}
+use Rattle.rules.specs.{Run.Lent, Run.Returned, Run.run, Promise.RunPromise, Promise.one_run}
+use Rattle.rules.specs.{Asked.message_row}
 use Rattle.rules.proofs.Pass.AnySlots.{pass_asks, pass_count}
 use Rattle.rules.specs.ASmallDay as Small
-use Rattle.demands.specs.Words.{MessageAnswered, row_of, refusal_of, place_for, filters_of, meaning, root_of, Permuted, C, questions, kept_questions, small_one, small_two, small_renamed}
+use Rattle.demands.specs.Words.{MessageAnswered, meaning, root_of, Permuted, small_one, small_two, small_renamed}
 use Rattle.demands.specs.Demands.{Demand1, Demand2, Demand3}
 pub mod Proofs
 pub mod Pair

@@ -1,7 +1,7 @@
 // The LEAF states that a value makes match, joined to a set. Its `pub` is for sister crates only: message_levels joins
 // them to the level of the text.
-// Its contract is one equation to `leaves_of` of rules/specs/Sets.antt, over the states that the plan holds. Read leaves
-// first; it asks of one state, from the state's numbers in the plan, what specs/OneState says. Read next:
+// Its contract is one equation to `leaves_of` of rules/specs/Sets.antt, over the states that the plan holds. Read
+// leaves first; it asks of one state, from the state's numbers in the plan, what specs/OneState says. Read next:
 // set_complete.
 #![tactic(auto)]
 
