@@ -88,9 +88,9 @@ def changed(edit):
 
 
 # ── what the toolchain said ──
-def told():
-    """What `rt must-fail` says of each edit, beginning with what became of it."""
-    done = subprocess.run(["rt", "must-fail"], cwd=TOP, stdin=subprocess.DEVNULL, stdout=subprocess.PIPE, stderr=subprocess.STDOUT,
+def told(crates):
+    """What `rt must-fail` says of each edit of some crates, or of all, beginning with what became of it."""
+    done = subprocess.run(["rt", "must-fail", *crates], cwd=TOP, stdin=subprocess.DEVNULL, stdout=subprocess.PIPE, stderr=subprocess.STDOUT,
                           text=True, errors="replace")
     return dict(TOLD.findall(done.stdout))
 
@@ -240,8 +240,8 @@ def without(names):
         yield "%s: a library with no edit" % crate
 
 
-def refused(names):
-    said = told()
+def refused(names, crates):
+    said = told(crates)
     there = {edit: said[edit][len(REFUSED):] for edit in names if said.get(edit, "").startswith(REFUSED)}
     whole = logs([edit for edit, error in there.items() if is_definition(edit) or any(refused_there(edit, error))])
     for edit in names:
@@ -270,13 +270,14 @@ def try_logs(folder):
 def main():
     if sys.argv[1:2] == ["--try"]:
         return try_logs(sys.argv[2])
-    names = edits(sys.argv[1:])
+    crates = sys.argv[1:]
+    names = edits(crates)
     wrong = [line for edit in names for line in applied(edit)]
-    if not sys.argv[1:]:
+    if not crates:
         wrong += list(counted(names)) + list(without(names))
     # what is wrong without a try is told without one
     end_if_wrong("edits", wrong if names else ["there is no edit"])
-    end_if_wrong("edits", list(refused(names)))
+    end_if_wrong("edits", list(refused(names, crates)))
     print("edits: %d wrong programs and definitions, each refused at the fact that it names" % len(names))
 
 
