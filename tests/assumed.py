@@ -108,7 +108,7 @@ def lines_amiss(crate, lines):
             if proved.group(2) != "proved":
                 yield "%s: %s is %s" % (crate, proved.group(1), proved.group(2))
         elif axioms:
-            if axioms.group(2).strip() != "none reached" and (is_library(crate) or axioms.group(1) not in KIT):
+            if axioms.group(2).strip() != "none reached" and (is_library(crate) or axioms.group(1) not in C_CODE):
                 yield "%s: it assumes what %s declares: %s" % (crate, *axioms.groups())
         elif not LOADED.fullmatch(line) and not PASSED_OVER.match(line):
             yield "%s: the prover said '%s'" % (crate, line[:100])

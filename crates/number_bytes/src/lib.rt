@@ -50,6 +50,7 @@ pub fn entry_at(k: usize) -> usize
 }
 
 // The lower half counts up from 0; in the upper half `!` gives the negative numbers with no sum that could overflow.
+#[tactic(auto, using(crate::proofs::Sign::small_signed, crate::proofs::Sign::large_signed))]
 pub fn signed(u: u64) -> i32
     requires { u < 2 ^ 32 }
     ensures { result ≡ signed4 u }

@@ -43,13 +43,17 @@ the_book book = refl
 pub the_day : (day : List ℕ) → DayPromise day (day_refusal day)
 the_day day = refl
 
--- each slice of a call is lent under its own name, as it was when the call began
+-- each slice of a call is lent under its own name, whatever lends it
+pub lent_are : (b d m a w : List ℕ) → lent b d m a w ≡ record { book = b; day = d; memory = m; answers = a; workspace = w }
+lent_are b d m a w = refl
+
+-- as it was when the call began
 abbrev pub Shown : Type 0
 Shown = Both (Bor (List ℕ)) (Bor (List ℕ))
 
 abbrev pub Slice : Type 0
 Slice = Both (MutBor (List ℕ)) (MutBor (List ℕ))
 
-pub lent_are : (b d : Shown) (m a w : Slice) →
+pub lent_began : (b d : Shown) (m a w : Slice) →
     lent (held b) (held d) (was m) (was a) (was w) ≡ record { book = held b; day = held d; memory = was m; answers = was a; workspace = was w }
-lent_are b d m a w = refl
+lent_began b d m a w = lent_are (held b) (held d) (was m) (was a) (was w)
