@@ -5,8 +5,9 @@ edits.py [CRATE..]      every edit, or those of some crates
 edits.py --try FOLDER   logs made up to show nothing: each must be called wrong
 
 - Every line of an edit is applied, and its first line reads `# WRONG PROGRAM; refused at PLACE: FACT`.
-- `rt must-fail` says that the edit is refused, and not by a limit or for a name that is gone. An error is at PLACE: `File.name`, a
-  law or an example of the crate, or a function and, between backticks, the goal of its proof.
+- `rt must-fail` says that the edit is refused, and not by a limit or for a name that is gone. It tells the first error; PLACE is where
+  that is: `File.name`, a law or an example of the crate, or a function and, between backticks, the goal of its proof. Where another
+  place is refused before the one that the edit is meant for, the second line reads `# refused before at OTHER`.
 - The first error, and that at PLACE, show a fact that is false: a goal that no proof was found for, or an equation whose two sides
   differ as far as they compute. It is no error of scope, type or layout, it is not in the declaration that the edit wrote into, and
   it is not that a proof has another shape than the code asks for.
@@ -32,6 +33,7 @@ LOGS = os.path.join(TOP, "target/tried")
 JOBS = 2
 COUNT = re.compile(r"(\d+) wrong programs and definitions")
 FIRST = re.compile(r"# (.+); refused at ([\w./-]+)(?: `([\w-]+)`)?: (.+)")
+BEFORE = re.compile(r"# refused before at ([\w./-]+)(?: `([\w-]+)`)?")
 TOLD = re.compile(r"^rt: must-fail (\w+/[\w.-]+)\.edit: (.*)$", re.M)
 REFUSED = "refused, as it must be: "
 # The prover's error at a place of a specification or a proof file, or at a function whose proof the toolchain makes by itself.
@@ -207,21 +209,27 @@ def shows_nothing(edit, at, said):
         yield "is in the declaration that it wrote into"
 
 
-def refused_there(edit, log):
-    first = FIRST.fullmatch(lines_of(edit)[0])
+def refused_there(edit, log, whole=None):
+    """What is amiss with the errors of a log, of which `whole` may have more than its beginning."""
+    crate, lines = edit.split("/")[0], lines_of(edit)
+    first, before = FIRST.fullmatch(lines[0]), BEFORE.fullmatch(lines[1])
     if not first:
         yield "%s.edit: its first line is not `# WRONG PROGRAM; refused at PLACE: FACT`" % edit
         return
-    found = list(errors(edit.split("/")[0], log))
-    if not found:
+    known = list(errors(crate, log)) or list(errors(crate, whole or ""))
+    if not known:
         yield "%s: no error of the prover in its log" % edit
         return
-    there = [error for error in found if error[0] == first.groups()[1:3]][:1]
-    if not there:
-        yield "%s: refused at %s, and its first line says %s" % (edit, shown(found[0][0]), shown(first.groups()[1:3]))
-    for which, (_, at, said) in [("first error", found[0])] + [("error there", error) for error in there if error is not found[0]]:
-        for words in shows_nothing(edit, at, said):
-            yield "%s: its %s %s: %s" % (edit, which, words, said[:300].replace("\n", " "))
+    place, wanted = known[0][0], first.groups()[1:3]
+    if place != (before.groups() if before else wanted):
+        yield "%s: refused at %s, and its first line says %s" % (edit, shown(place), shown(before.groups() if before else wanted))
+    found = list(errors(crate, whole or log))
+    for at_place in [place] + [wanted] * (wanted != place and bool(before)):
+        there = [error for error in found if error[0] == at_place]
+        if not there:
+            yield "%s: no error is at %s" % (edit, shown(at_place))
+        for words in shows_nothing(edit, *there[0][1:]) if there else []:
+            yield "%s: its error at %s %s: %s" % (edit, shown(at_place), words, there[0][2][:300].replace("\n", " "))
 
 
 def counted(names):
@@ -248,7 +256,7 @@ def refused(names, crates):
         if edit not in there:
             yield "%s: it was not tried and refused: %s" % (edit, said.get(edit, "nothing is said of it"))
         else:
-            yield from refused_there(edit, whole.get(edit, there[edit]))
+            yield from refused_there(edit, there[edit], whole.get(edit))
 
 
 def tried(logs):
