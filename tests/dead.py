@@ -3,8 +3,8 @@
 specifications, functions and constants of the code.
 
 A specification is a file of specs, or a file of proofs that is no function's invariants and answers: laws stand in both. A name of a
-specification is used where another file brings it in by a `use` line, or by its module's name and a dot; a
-field or a constructor also where its word stands in another file; and all of them where their word stands in their own
+specification is used where another file brings it in by a `use` line, or by its module's name and a dot, or code names it to a tactic by
+its whole path; a field or a constructor also where its word stands in another file; and all of them where their word stands in their own
 file outside the lines that define them. Proofs count. A function or a constant of the code is used where code outside its
 own body calls or names it. An example of a file `Examples` and an exported call are used by nobody: a page must cite them.
 
@@ -23,6 +23,7 @@ RULESET = re.compile(r"(?:pub )?ruleset (\S+) =")
 NO_DECLARATION = re.compile(r"(use|pub mod|module|infix[lr]?) ")
 WORD = re.compile(r"[^\s(){}\[\],;|]+")
 USE = re.compile(r"^(?:ghost )?use Rattle\.(\w+)\.(?:specs|proofs)(?:\.([\w.]+?))?(?:\.\{([^}]*)\})?(?: as ([^\s;]+))?;?$", re.M)
+TO_TACTIC = re.compile(r"\b(\w+)::(?:specs|proofs)::((?:\w+::)*)(\w+)")
 SPEC = re.compile(r"crates/\w+/(?:specs/|proofs/(?!(?:.*/)?(?:Invariants|Answers|Proof)\.antt$).*\.antt$)")
 
 
@@ -129,6 +130,8 @@ class Tree:
     def look(self, path, text):
         names, modules = brought(text)
         modules.update(children(path, text))
+        for crate, module, name in TO_TACTIC.findall(text) if path.endswith(".rt") else []:
+            names.add((path.split("/")[1] if crate == "crate" else crate, module[:-2].replace("::", "."), name))
         if path not in self.words:
             self.words[path] = words(text)
         dotted = [word.split(".", 1) for word in self.words[path] if "." in word]
