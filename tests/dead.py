@@ -9,7 +9,7 @@ file outside the lines that define them. Proofs count. A function or a constant 
 own body calls or names it. An example of a file `Examples` and an exported call are used by nobody: a page must cite them.
 
 A page cites a name between backticks: by itself, as `crate::name`, or as `crate.File.name`, perhaps without the crate.
-CHANGELOG.md is left out: it has old names.
+CHANGELOG.md, docs/PORT.md and docs/DESIGN-PASS.md are left out: they have old names.
 """
 import re
 import sys
@@ -156,6 +156,13 @@ def dead_in_specs(tree):
                 yield spec.path, name
 
 
+def converted(text, at, sources):
+    """Whether the function at a place is that of an `impl From<..> for TYPE` or `TryFrom` whose type code calls it by."""
+    impls = re.findall(r"^impl (?:Try)?From<.*> for (\w+) \{$", text[:at], re.M)
+    name = re.match(r"(?:fn|const) (\w+)", text[at:]).group(1)
+    return name in ("from", "try_from") and impls and any(re.search(r"\b%s::%s\(" % (impls[-1], name), there) for there in sources)
+
+
 def called(crate, name, own, others):
     """Whether code calls or names it: in its crate by itself, elsewhere by the crate's name or as a method."""
     here = r"\b%s\(|\.%s\(" % (name, name) if name.islower() else r"\b%s\b" % name
@@ -168,7 +175,10 @@ def dead_in_code(tree):
     for path, text in sources.items():
         crate = path.split("/")[1]
         others = [there for other, there in sources.items() if other.split("/")[1] != crate]
-        for name in re.findall(r"\b(?:fn|const) (\w+)\b", text):
+        for found in re.finditer(r"\b(?:fn|const) (\w+)\b", text):
+            name = found.group(1)
+            if converted(text, found.start(), sources.values()):
+                continue
             body = re.search(r"^( *)[^\n]*\b(?:fn|const) %s\b(?:[^\n]*;|.*?^\1\})$" % name, text, re.S | re.M)
             own = [there for other, there in sources.items() if other != path and other.split("/")[1] == crate]
             own.append(text[:body.start()] + text[body.end():])

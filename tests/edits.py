@@ -153,8 +153,11 @@ def in_proof(crate, file, line, name):
 
 
 def in_source(crate, file, line, goal):
-    above = "\n".join(read("crates/%s/%s" % (crate, file)).split("\n")[:line])
-    return re.findall(r"\bfn (\w+)", above)[-1], goal
+    """A goal told at a line of the code: of the function that holds it, or whose attribute it is."""
+    lines = read("crates/%s/%s" % (crate, file)).split("\n")
+    while lines[line - 1].lstrip().startswith("#["):
+        line += 1
+    return re.findall(r"\bfn (\w+)", "\n".join(lines[:line]))[-1], goal
 
 
 def is_function(crate, file):

@@ -1,12 +1,11 @@
 -- Refusals 1, 3, 4 and 5, a law for each way out. `f` is the number of filters that was read.
-use Rattle.std.specs.Prelude.{◌≡◌, refl, Bool, true, false, ◌||◌, not, List, ℕ, ◌+◌, ◌-◌, ◌*◌, ◌^◌, ◌<◌, ◌≤◌, eqb, ltb, leb, length}
-use Rattle.std.proofs.Common.{sym, ◌∙◌, add-one, lt-ltb, le-ltb, eq-eqb, ne_eqb}
+use Rattle.std.specs.Prelude.{◌≡◌, refl, Bool, true, ◌||◌, not, List, ℕ, ◌+◌, ◌-◌, ◌*◌, ◌^◌, ◌<◌, ◌≤◌, eqb, ltb, leb, length}
+use Rattle.std.proofs.Common.{◌∙◌, add-one, lt-ltb, le-ltb}
 use native.Mathlib.Omega.{arith}
 use Rattle.lists.specs.Below.{some_below}
 use Rattle.rules.specs.Bytes.{entry_at}
 use Rattle.rules.specs.Book.{most_states, state_width, filter_count, id_of, body_start, body_size, states_before, book_short, ids_fall, bad_sizes, bodies_astray}
 use Rattle.book_contents.specs.BookAccepted.{falls_at, empty_at}
-use Rattle.lists.specs.Below.Searched.{Searched, searched_next, searched_hit, searched_all}
 use Rattle.lists.specs.Below.Laid.{Laid, astray, laid_none, laid_next, laid_hit, laid_all}
 
 -- ── 1 ──
@@ -18,32 +17,18 @@ pub short_is : (b : List ℕ) (e : ℕ) → 2 ≤ length b → e ≡ entry_at (f
 unfolding book_short
 short_is b e h d = simp (le-ltb (length b) 2 h, d)
 
-pub falls_is : (b : List ℕ) (k p q : ℕ) → p ≡ id_of b k → q ≡ id_of b (k + 1) → leb q p ≡ falls_at b k
-falls_is b k p q e d = rw (e, d)
+-- ── 3: a pair is named by its second entry ──
+abbrev pub falls_before : List ℕ → ℕ → Bool
+falls_before b k = leb (id_of b k) (id_of b (k - 1))
 
-module _ (b : List ℕ) {f : ℕ} (count : f ≡ filter_count b) where
-  -- ── 3: a pair is named by its first entry ──
-  pub ids_next : {k : ℕ} {t : Bool} → Searched (falls_at b) (f - 1) k → k + 1 < f → t ≡ falls_at b k → t ≡ false → Searched (falls_at b) (f - 1) (k + 1)
-  ids_next g h e d = searched_next g (omega arith) e d
+pub falls_next : (b : List ℕ) (k : ℕ) → falls_at b k ≡ falls_before b (1 + k)
+falls_next b k = let e : 1 + k ≡ k + 1 = omega arith in let d : k + 1 - 1 ≡ k = omega arith in rw (e, d)
 
-  pub ids_hit : {k : ℕ} {t : Bool} → Searched (falls_at b) (f - 1) k → k + 1 < f → t ≡ falls_at b k → t ≡ true → true ≡ ids_fall b
-  unfolding ids_fall
-  ids_hit g h e d = rw (← count) (searched_hit g (omega arith) e d)
+pub ids_is : (b : List ℕ) (f : ℕ) → f ≡ filter_count b → some_below (falls_at b) (f - 1) ≡ ids_fall b
+unfolding ids_fall
+ids_is b f count = rw count
 
-  pub ids_all : {k : ℕ} → Searched (falls_at b) (f - 1) k → f ≤ k + 1 → false ≡ ids_fall b
-  unfolding ids_fall
-  ids_all {k} g h = rw (← count) (searched_all g (omega arith))
-
-  -- ── 4 ──
-  pub sizes_next : {k n : ℕ} → Searched (empty_at b) f k → k < f → n ≡ body_size b k → (n ≡ 0 → ⊥) → Searched (empty_at b) f (k + 1)
-  sizes_next {k} {n} g h e d = searched_next g h refl (ne_eqb _ _ (λ z. d (e ∙ z)))
-
-  pub sizes_hit : {k n : ℕ} → Searched (empty_at b) f k → k < f → n ≡ body_size b k → n ≡ 0 → true ≡ some_below (empty_at b) (filter_count b)
-  sizes_hit {k} {n} g h e d = rw (← count) (searched_hit g h refl (eq-eqb _ _ (sym e ∙ d)))
-
-  pub sizes_all : {k : ℕ} → Searched (empty_at b) f k → f ≤ k → false ≡ some_below (empty_at b) (filter_count b)
-  sizes_all {k} g h = rw (← count) (searched_all g h)
-
+-- ── 4 ──
 -- the sum of the sizes before k
 pub record Summed (b : List ℕ) (f sum k : ℕ) : Type 0 where
   pub within : k ≤ f
@@ -87,3 +72,5 @@ module _ (b : List ℕ) {f : ℕ} (count : f ≡ filter_count b) where
 
   pub placed_all : {place k : ℕ} → Placed b f place k → f ≤ k → not (eqb (length b) place) ≡ bodies_astray b
   placed_all g h = laid_all (length b) g h ∙ placed_is b f count
+
+pub ruleset placed_laws = (placed_hit, placed_all)

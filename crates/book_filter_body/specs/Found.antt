@@ -10,10 +10,9 @@ use Rattle.lists.specs.Choice.{pick}
 use Rattle.lists.specs.Parts.{part}
 use Rattle.lists.specs.Choice.Laws.{pick_true, pick_false, pick_cases}
 use Rattle.lists.specs.Parts.Laws.{part_lent}
-use Rattle.rules.specs.Bytes.{entry_at}
 use Rattle.rules.specs.Book.{state_width, filter_count, id_of, body_start, body_size, book_refusal, body_among, body_of, nowhere, part_among, part_of}
 use Rattle.rules.specs.Book as rules
-use Rattle.book_contents.specs.BookAccepted.{BookAccepted, accepted, body_inside, entry_inside}
+use Rattle.book_contents.specs.BookAccepted.{BookAccepted, accepted, body_inside}
 use Rattle.book_filter_body.specs.declared.Part.{Part}
 
 -- what a call gives, as the definition has it
@@ -30,9 +29,6 @@ module _ (b : List ℕ) (id : ℕ) where
   looking_none e = record { within = omega arith; same = ap (part_among b id) e }
 
   module _ {k : ℕ} (g : Looking b id k) where
-    pub looking_entry : book_refusal b ≡ 0 → 0 < k → entry_at (k - 1 + 1) ≤ length b
-    looking_entry ok h = entry_inside b (k - 1) ok (omega arith)
-
     here : 0 < k → part_among b id (filter_count b) ≡ pick (eqb (id_of b (k - 1)) id) (record { start = body_start b (k - 1); length = state_width * body_size b (k - 1) }) (part_among b id (k - 1))
     unfolding part_among
     here h = let e : k ≡ suc (k - 1) = omega arith in sym g.same ∙ ap (part_among b id) e
@@ -59,6 +55,10 @@ module _ (b : List ℕ) (id : ℕ) where
   pub part_found : {r : ℕ} {p : rules.Part} → r ≡ book_refusal b → r ≡ 0 → p ≡ part_among b id (filter_count b) → p ≡ part_of b id
   unfolding part_of
   part_found e d f = f ∙ sym (pick_true _ _ _ (eq-eqb _ _ (sym e ∙ d)))
+
+pub ruleset looking_laws = (looking_none, looking_next, looking_all)
+
+pub ruleset part_laws = (part_refused, part_found)
 
 -- ── the part of the book that the numbers name ──
 unfoldable pub bytes_at : List ℕ → rules.Part → List ℕ

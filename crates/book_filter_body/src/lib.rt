@@ -6,49 +6,52 @@
 #![tactic(auto)]
 
 ghost use Rattle.std.specs.Prelude.{◌≡◌};
-ghost use Rattle.rules.specs.Book.{filter_count, book_refusal, part_among};
+ghost use Rattle.rules.specs.Book.{filter_count, part_among};
 ghost use Rattle.rules.specs.Promise.{BodyPromise, PartPromise};
 ghost use Rattle.book_filter_body.specs.Found.{part_in};
 
+use book_check::Book;
+
+// (0, 0) is none, for C and by part_among: no Option.
 #[repr(C)]
-#[derive(Clone, Copy)]
+#[derive(Clone, Copy, Debug, PartialEq, Eq)]
 pub struct Part {
     pub start: usize,
     pub length: usize,
 }
 
+// The part of no body.
+const NOWHERE: Part = Part {
+    start: 0,
+    length: 0,
+};
+
 // From the last entry back to the first, as the definition looks.
-fn look(book: &[u8], id: u64) -> Part
-    requires { book_refusal book.now ≡ 0 }
+#[tactic(auto, using(crate::specs::Found::looking_laws))]
+fn look(book: &Book<'_>, id: u64) -> Part
     ensures { part_in result ≡ part_among book.now id (filter_count book.now) }
 {
-    let mut k = book_contents::filter_count(book);
-    while 0 < k {
-        k -= 1;
-        if book_contents::id_of(book, k) == id {
+    // A for: what is left before each entry has its law.
+    for k in (0..book.filter_count()).rev() {
+        if book.id_of(k) == id {
             return Part {
-                start: book_contents::body_start(book, k),
-                length: book_contents::body_length(book, k),
+                start: book.body_start(k),
+                length: book.body_length(k),
             };
         }
     }
-    Part {
-        start: 0,
-        length: 0,
-    }
+    NOWHERE
 }
 
 // Where the body stands in the book; (0, 0) where there is none.
+#[tactic(auto, using(crate::specs::Found::part_laws, refusals::specs::Laws::number_positive))]
 pub fn part_of(book: &[u8], id: u32) -> Part
     ensures { PartPromise book.now id (part_in result) }
 {
-    if book_check::check_book(book) != 0 {
-        return Part {
-            start: 0,
-            length: 0,
-        };
+    match book_check::accept(book) {
+        Ok(book) => look(&book, u64::from(id)),
+        Err(_) => NOWHERE,
     }
-    look(book, id as u64)
 }
 
 pub fn filter_body(book: &[u8], id: u32) -> &[u8]

@@ -1,5 +1,5 @@
 -- A loop over the states of a plan that puts one bit a turn into a set, upwards or downwards.
-use Rattle.std.specs.Prelude.{◌≡◌, Bool, false, List, ℕ, ◌+◌, ◌-◌, ◌*◌, ◌/◌, ◌<◌, ◌≤◌, length, get_or, replicate}
+use Rattle.std.specs.Prelude.{◌≡◌, Bool, false, List, ℕ, ◌+◌, ◌-◌, ◌/◌, ◌<◌, ◌≤◌, length, get_or, replicate}
 use Rattle.std.proofs.Common.{◌∙◌, ap, arith, Fits}
 use Rattle.std.proofs.Math.Nat.{zero-div}
 use Rattle.std.proofs.Math.Decide.{ℕ_discrete}
@@ -12,17 +12,18 @@ use Rattle.rules.specs.Sets.{set_width, bits_each, has, set_of}
 use Rattle.rules.specs.Leading.{Inside}
 use Rattle.rules.proofs.Sets.Laws.{Upto, upto_up, upto_down, set_ext, set_of_long, set_of_fits, has_set_of, has_past}
 use Rattle.rules.specs.OneBit.{put}
-use Rattle.book_plan.specs.Plan.{plan_width, plan_state, state_in, state_count, states_in, Planned}
-use Rattle.book_plan.proofs.Plan.{states_long, states_at, inside_more}
+use Rattle.book_plan.specs.declared.State as plan
+use Rattle.book_plan.specs.Plan.{state_in, state_count, states_in, WellLed}
+use Rattle.book_plan.proofs.Laws.{states_long, states_at}
 
 -- the bits of s are f below i and g from i on
-pub record Putting (p : List ℕ) (f g : ℕ → Bool) (i : ℕ) (s : List ℕ) : Type 0 where
-  pub plan : Planned p
+pub record Putting (p : List plan.State) (f g : ℕ → Bool) (i : ℕ) (s : List ℕ) : Type 0 where
+  pub plan : WellLed p
   pub within : i ≤ state_count p
   pub numbers : (k : ℕ) → Fits w64 (get_or s k 0)
   pub bits : Upto f g i s
 
-module _ (p : List ℕ) (f g : ℕ → Bool) (i : ℕ) (s t : List ℕ) (x : Bool) where
+module _ (p : List plan.State) (f g : ℕ → Bool) (i : ℕ) (s t : List ℕ) (x : Bool) where
   pub putting_up : Putting p f g i s → i < state_count p → x ≡ f i → t ≡ put s i x → ((k : ℕ) → Fits w64 (get_or t k 0)) → Putting p f g (i + 1) t
   putting_up c h e z w = record { plan = c.plan; within = omega arith; numbers = w; bits = rw z (upto_up f g i s x c.bits (omega (arith, c.plan.few)) e) }
 
@@ -35,7 +36,7 @@ module _ (p : List ℕ) (f g : ℕ → Bool) (i : ℕ) (s t : List ℕ) (x : Boo
   }
 
 -- upwards, where bit i is right as it stands
-pub putting_skip : (p : List ℕ) (f g : ℕ → Bool) (i : ℕ) (s : List ℕ) → Putting p f g i s → i < state_count p → g i ≡ f i → Putting p f g (i + 1) s
+pub putting_skip : (p : List plan.State) (f g : ℕ → Bool) (i : ℕ) (s : List ℕ) → Putting p f g i s → i < state_count p → g i ≡ f i → Putting p f g (i + 1) s
 putting_skip p f g i s c h e = record {
   plan = c.plan;
   within = omega arith;
@@ -58,12 +59,11 @@ no_bit o s j l e h = rw (e, l, get_or-replicate {A = ℕ} set_width (j / bits_ea
 pub far_bit : (s : List ℕ) (j : ℕ) → length s ≡ set_width → most_states ≤ j → has s j ≡ false
 far_bit s j l h = rw (get_or-eq_default s 0 {n = j / bits_each} (omega arith), zero-div)
 
-pub plan_inside : (p : List ℕ) (k : ℕ) → Planned p → k < state_count p → Inside (plan_state (get_or p (plan_width * k) 0) (get_or p (plan_width * k + 1) 0) (get_or p (plan_width * k + 2) 0)) most_states
-unfolding state_in
-plan_inside p k q h = inside_more (state_in p k) (state_count p) most_states q.few (q.inside k h)
+pub plan_inside : (p : List plan.State) (k : ℕ) → WellLed p → k < state_count p → Inside (state_in p k) most_states
+plan_inside p k q h = q.inside k h
 
 -- the set of the plan's states that pass a test: its bits, and what has them is it
-module _ (p : List ℕ) (q : Planned p) (f : State → ℕ → Bool) where
+module _ (p : List plan.State) (q : WellLed p) (f : State → ℕ → Bool) where
   pub planned_bit : (k : ℕ) → k < state_count p → has (set_of (states_in p) f) k ≡ f (state_in p k) k
   planned_bit k h =
       let l : length (states_in p) ≡ state_count p = states_long p in

@@ -1,200 +1,125 @@
 -- The loops that make a plan: one over a body's states, one over the filters.
-use Rattle.std.specs.Prelude.{◌≡◌, refl, List, ℕ, suc, ◌+◌, ◌-◌, ◌*◌, ◌^◌, ◌<◌, ◌≤◌, length, get_or, take}
-use Rattle.std.proofs.Common.{◌∙◌, add-one, length-take, get_or-take}
-use Rattle.std.proofs.Math.Path.{ap}
-use native.Mathlib.Omega.{arith}
-use Rattle.std.proofs.Math.Decide.{dec_lt, ℕ_discrete}
+use Rattle.std.specs.Prelude.{◌≡◌, refl, false, List, [], ◌∷◌, ◌++◌, ℕ, ◌+◌, ◌*◌, ◌<◌, ◌≤◌, length, get_or}
+use Rattle.std.proofs.Common.{◌∙◌, sym, add-one, add-zero, arith, ap, length-append, append_assoc, append-nil}
+use Rattle.std.proofs.lemmas.List.{map-append}
 use Rattle.lists.specs.Below.{up_to}
-use Rattle.lists.specs.Below.Laws.{up_to_same, up_to_add}
-use Rattle.rules.specs.Bytes.{entry_at}
-use Rattle.rules.specs.Book.{most_states, state_width, filter_count, body_start, body_size, states_before, book_refusal, state_at, states_of_first, states_of}
+use Rattle.lists.specs.Below.Laws.{up_to_long, up_to_same, up_to_add}
+use Rattle.lists.specs.Checks.{row_fails}
+use Rattle.lists.specs.Checks.Laws.{none_fails, row_passes}
+use Rattle.rules.specs.State.{State, TRUE}
+use Rattle.rules.specs.Book.{most_states, state_width, filter_count, body_start, body_size, states_before, book_checks, book_refusal, state_at, states_of_first, states_of}
 use Rattle.rules.specs.Leading.{Higher}
 use Rattle.rules.specs.Leading.{Inside}
-use Rattle.book_plan.specs.Plan.{plan_width, plan_room, state_in, state_count, states_in, Planned, PlanOf}
-use Rattle.book_plan.proofs.Plan.{inside_more}
-use Rattle.book_contents.specs.BookAccepted.{BookAccepted, accepted, states_rise, body_inside, table_inside, entry_inside}
-use Rattle.book_planner.specs.Row.{row_in, row_long, row_before, row_after, row_state}
+use Rattle.rules.proofs.Match.Settle.{Fine}
+use Rattle.rules.proofs.Book.Fine.{states_fine}
+use Rattle.book_plan.specs.declared.State as plan
+use Rattle.book_plan.specs.Plan.{meant_state, state_in, state_count, states_in, Planned, PlanOf}
+use Rattle.book_plan.proofs.Laws.{inside_more, states_long, states_at}
+use Rattle.book_contents.specs.BookAccepted.{BookAccepted, accepted, states_rise, body_inside}
 use Rattle.book_planner.specs.Leads.{leads_well_lem}
 
-state_kept : (p q : List ℕ) (n k : ℕ) → ((m : ℕ) → m < plan_width * n → get_or q m 0 ≡ get_or p m 0) → k < n → state_in q k ≡ state_in p k
-unfolding state_in
-state_kept p q n k f h = rw (f (plan_width * k) (omega arith), f (plan_width * k + 1) (omega arith), f (plan_width * k + 2) (omega arith))
+-- the n states of the body at a place, whose state 0 is number base of the book
+abbrev pub body_states : List ℕ → ℕ → ℕ → ℕ → List State
+body_states b base at n = up_to (λ i. state_at b base (at + state_width * i)) n
 
--- ── one body: i of its states are written, and what stands before and after them is kept ──
-pub record Body (b : List ℕ) (at base : ℕ) (p₀ p : List ℕ) (i : ℕ) : Type 0 where
-  pub long : length p ≡ length p₀
-  pub before : (m : ℕ) → m < plan_width * base → get_or p m 0 ≡ get_or p₀ m 0
-  pub past : (m : ℕ) → plan_width * (base + i) ≤ m → get_or p m 0 ≡ get_or p₀ m 0
-  pub done : (k : ℕ) → k < i → state_in p (base + k) ≡ state_at b base (at + state_width * k)
-  pub small : (k : ℕ) → k < i → get_or p (plan_width * (base + k) + 2) 0 < 2 ^ 32
+-- each of them leads to higher states of a book
+abbrev pub LeadsWell : List ℕ → ℕ → ℕ → ℕ → Type 0
+LeadsWell b base at n = (i : ℕ) → i < n → Higher (state_at b base (at + state_width * i)) (base + i) × Inside (state_at b base (at + state_width * i)) most_states
 
-module _ (b : List ℕ) (at base : ℕ) where
-  pub body_none : (p : List ℕ) → Body b at base p p 0
-  body_none p = record { long = refl; before = λ m h. refl; past = λ m h. refl; done = λ k h. absurd (omega arith); small = λ k h. absurd (omega arith) }
+-- ── one body: i of its states are kept ──
+pub record Body (b : List ℕ) (at : ℕ) (p₀ p : List plan.State) (i : ℕ) : Type 0 where
+  pub long : length p ≡ length p₀ + i
+  pub done : states_in p ≡ states_in p₀ ++ body_states b (length p₀) at i
 
-  -- the state is read at its place s
-  pub body_more : (p₀ p q : List ℕ) (i s : ℕ) → Body b at base p₀ p i → plan_width * (base + i) + plan_width ≤ length p₀ → s ≡ at + state_width * i
-      → q ≡ row_in b s base (base + i) p → get_or q (plan_width * (base + i) + 2) 0 < 2 ^ 32 → Body b at base p₀ q (i + 1)
-  body_more p₀ p q i s c h place d l =
-      let e : q ≡ row_in b (at + state_width * i) base (base + i) p = d ∙ ap (λ (m : ℕ). row_in b m base (base + i) p) place in
-      let before : (m : ℕ) → m < plan_width * (base + i) → get_or q m 0 ≡ get_or p m 0 = λ m u. rw e (row_before b (at + state_width * i) base (base + i) p m u) in
+module _ (b : List ℕ) (at : ℕ) (p₀ : List plan.State) where
+  pub body_none : Body b at p₀ p₀ 0
+  unfolding up_to
+  body_none = record { long = rw add-zero; done = sym (append-nil (states_in p₀)) }
+
+  one_more : (i : ℕ) → body_states b (length p₀) at (i + 1) ≡ body_states b (length p₀) at i ++ state_at b (length p₀) (at + state_width * i) ∷ []
+  unfolding up_to
+  one_more i = rw add-zero at (up_to_add (λ j. state_at b (length p₀) (at + state_width * j)) i 1)
+
+  -- the state is read at its place
+  pub body_more : (p : List plan.State) (i base place : ℕ) (s : plan.State) → Body b at p₀ p i → base ≡ length p₀ → place ≡ at + state_width * i →
+      meant_state s ≡ state_at b base place → Body b at p₀ (p ++ s ∷ []) (i + 1)
+  body_more p i base place s c f g e =
+      let own : meant_state s ≡ state_at b (length p₀) (at + state_width * i) = rw (f, g) at e in
       record {
-        long = ap length e ∙ row_long b (at + state_width * i) base (base + i) p ∙ c.long;
-        before = λ m u. before m (omega arith) ∙ c.before m u;
-        past = λ m u. rw e (row_after b (at + state_width * i) base (base + i) p m (omega arith)) ∙ c.past m (omega arith);
-        done = λ k u. elim (ℕ_discrete k i) [
-          | yes d ↦ rw (d, e) (row_state b (at + state_width * i) base (base + i) p (rw c.long h))
-          | no d ↦ state_kept p q (base + i) (base + k) before (omega arith) ∙ c.done k (omega arith)
-        ];
-        small = λ k u. elim (ℕ_discrete k i) [
-          | yes d ↦ rw d l
-          | no d ↦ rw (before (plan_width * (base + k) + 2) (omega arith)) (c.small k (omega arith))
-        ];
+        long = rw length-append (omega (arith, c.long));
+        done = map-append meant_state p (s ∷ []) ∙ rw (one_more i, c.done, own) (append_assoc (states_in p₀) (body_states b (length p₀) at i) _);
       }
 
-  pub body_all : (p₀ p : List ℕ) (i n : ℕ) → Body b at base p₀ p i → i ≤ n → n ≤ i → Body b at base p₀ p n
-  body_all p₀ p i n c h u = let e : n ≡ i = omega arith in rw e c
+  pub body_all : (p : List plan.State) (i n : ℕ) → Body b at p₀ p i → i ≤ n → n ≤ i → states_in p ≡ states_in p₀ ++ body_states b (length p₀) at n
+  body_all p i n c h u = let e : n ≡ i = omega arith in rw e c.done
 
 pub ruleset body_laws = (body_none, body_more, body_all)
 
--- ── the filters: the states of the first i filters are written ──
-pub record Making (b : List ℕ) (f : ℕ) (p₀ p : List ℕ) (base i : ℕ) : Type 0 where
+-- ── the filters: the states of the first i filters are kept ──
+pub record Making (b : List ℕ) (p : List plan.State) (i : ℕ) : Type 0 where
   pub ok : book_refusal b ≡ 0
-  pub filters : f ≡ filter_count b
-  pub within : i ≤ f
-  pub room : plan_room ≤ length p
-  pub long : length p ≡ length p₀
-  pub few : base ≤ most_states
-  pub count : base ≡ states_before b i
-  pub states : up_to (state_in p) base ≡ states_of_first b i
-  pub higher : (k : ℕ) → k < base → Higher (state_in p k) k
-  pub inside : (k : ℕ) → k < base → Inside (state_in p k) base
-  pub small : (k : ℕ) → k < base → get_or p (plan_width * k + 2) 0 < 2 ^ 32
-  pub past : (m : ℕ) → plan_width * base ≤ m → get_or p m 0 ≡ get_or p₀ m 0
+  pub within : i ≤ filter_count b
+  pub count : length p ≡ states_before b i
+  pub states : states_in p ≡ states_of_first b i
 
--- what `make` promises: the first r numbers of what was lent are the plan of the book, and nothing else there is touched
-pub record Made (b p₀ p : List ℕ) (r : ℕ) : Type 0 where
-  pub plan : PlanOf (take r p) b
-  pub within : r ≤ length p
-  pub count : r ≡ plan_width * states_before b (filter_count b)
-  pub long : length p ≡ length p₀
-  pub past : (m : ℕ) → r ≤ m → get_or p m 0 ≡ get_or p₀ m 0
+pub making_none : (b : List ℕ) → book_refusal b ≡ 0 → Making b [] 0
+unfolding states_of_first states_before
+making_none b ok = record { ok = ok; within = omega arith; count = refl; states = refl }
 
-pub making_none : (b : List ℕ) (f : ℕ) (p : List ℕ) → book_refusal b ≡ 0 → f ≡ filter_count b → plan_room ≤ length p → Making b f p p 0 0
-unfolding up_to states_of_first states_before
-making_none b f p ok e h = record {
-  ok = ok;
-  filters = e;
-  within = omega arith;
-  room = h;
-  long = refl;
-  few = omega arith;
-  count = refl;
-  states = refl;
-  higher = λ k u. absurd (omega arith);
-  inside = λ k u. absurd (omega arith);
-  small = λ k u. absurd (omega arith);
-  past = λ m u. refl;
-}
-
-module _ (b p₀ p : List ℕ) (f base i : ℕ) (c : Making b f p₀ p base i) (h : i < f) where
+module _ (b : List ℕ) (p : List plan.State) (i : ℕ) (c : Making b p i) (h : i < filter_count b) where
   a : BookAccepted b
   a = accepted b c.ok
 
-  l : i < filter_count b
-  l = omega (arith, c.filters)
-
-  pub making_entry : entry_at (i + 1) ≤ length b
-  making_entry = entry_inside b i c.ok l
-
   module _ {s n : ℕ} (start : s ≡ body_start b i) (size : n ≡ body_size b i) where
-    pub making_few : base + n ≤ most_states
-    making_few = omega (arith, a.states, c.count, states_rise b i (filter_count b) l)
+    pub making_few : length p + n ≤ most_states
+    making_few = omega (arith, a.states, c.count, states_rise b i (filter_count b) h)
 
     pub making_room : s + state_width * n ≤ length b
-    making_room = omega (arith, body_inside b a i l)
+    making_room = omega (arith, body_inside b a i h)
 
-    module _ (q : List ℕ) (t : Body b s base p q n) where
-      old : (k : ℕ) → k < base → state_in q k ≡ state_in p k
-      old k u = state_kept p q base k t.before u
+    pub making_leads : LeadsWell b (length p) s n
+    making_leads j u =
+        let v : j < body_size b i = omega arith in
+        let t = leads_well_lem b (length p) (body_start b i + state_width * j) j (body_size b i) (a.rows i j h v) (a.leads i j h v) in
+        rw start (t.0, inside_more _ (length p + body_size b i) most_states (omega (arith, making_few)) t.1)
 
-      -- the state that the body's own state j became
-      fresh : (j : ℕ) → j < n → Higher (state_in q (base + j)) (base + j) × Inside (state_in q (base + j)) (base + n)
-      fresh j u =
-          let v : j < body_size b i = omega arith in
-          rw (t.done j u, start, size) (leads_well_lem b base (body_start b i + state_width * j) j (body_size b i) (a.rows i j l v) (a.leads i j l v))
+    read : body_states b (length p) s n ≡ body_states b (states_before b i) (body_start b i) (body_size b i)
+    read = rw size (up_to_same _ _ (body_size b i) (λ j u. rw (c.count, start)))
 
-      states_more : up_to (state_in q) (base + n) ≡ states_of_first b (suc i)
-      unfolding states_of_first
-      states_more =
-          up_to_add (state_in q) base n
-          ∙ rw (up_to_same (state_in q) (state_in p) base old, c.states, up_to_same (λ j. state_in q (base + j)) (λ j. state_at b base (s + state_width * j)) n t.done, start, size, c.count)
+    pub making_more : (q : List plan.State) → states_in q ≡ states_in p ++ body_states b (length p) s n → Making b q (i + 1)
+    unfolding states_of_first states_before
+    making_more q e = record {
+      ok = c.ok;
+      within = omega arith;
+      count = sym (states_long q) ∙ ap length e ∙ rw (length-append, states_long, up_to_long, add-one, c.count, size);
+      states = e ∙ rw (add-one, c.states, read);
+    }
 
-      making_suc : Making b f p₀ q (base + n) (suc i)
-      unfolding states_before
-      making_suc = record {
-        ok = c.ok;
-        filters = c.filters;
-        within = omega arith;
-        room = rw t.long c.room;
-        long = t.long ∙ c.long;
-        few = making_few;
-        count = omega (arith, c.count, size);
-        states = states_more;
-        higher = λ k u. elim (dec_lt k base) [
-          | yes v ↦ rw (old k v) (c.higher k v)
-          | no v ↦ let d : base + (k - base) ≡ k = omega arith in rw d at (fresh (k - base) (omega arith)).0
-        ];
-        inside = λ k u. elim (dec_lt k base) [
-          | yes v ↦ rw (old k v) (inside_more (state_in p k) base (base + n) (omega arith) (c.inside k v))
-          | no v ↦ let d : base + (k - base) ≡ k = omega arith in rw d at (fresh (k - base) (omega arith)).1
-        ];
-        small = λ k u. elim (dec_lt k base) [
-          | yes v ↦ rw (t.before (plan_width * k + 2) (omega arith)) (c.small k v)
-          | no v ↦ let d : base + (k - base) ≡ k = omega arith in rw d at (t.small (k - base) (omega arith))
-        ];
-        past = λ m u. t.past m u ∙ c.past m (omega arith);
-      }
+module _ (b : List ℕ) (p : List plan.State) (i : ℕ) (c : Making b p i) where
+  fine : Fine (states_of b)
+  unfolding book_refusal
+  fine =
+      let passes : (j : ℕ) → row_fails (book_checks b) j ≡ false = row_passes (book_checks b) (none_fails (book_checks b) refl c.ok) in
+      states_fine b (passes 6) (passes 7)
 
-      pub making_more : Making b f p₀ q (base + n) (i + 1)
-      making_more = rw (add-one i) making_suc
-
--- the plan is as long as its states ask
-module _ (b p₀ p : List ℕ) (f base i : ℕ) (c : Making b f p₀ p base i) where
-  pub making_long : plan_width * base < 2 ^ 64
-  making_long = omega (arith, c.few)
-
-  made_count : state_count (take (plan_width * base) p) ≡ base
-  made_count = rw length-take (omega (arith, c.few, c.room))
-
-  made_same : (m : ℕ) → m < plan_width * base → get_or (take (plan_width * base) p) m 0 ≡ get_or p m 0
-  made_same m h = get_or-take (plan_width * base) p m 0 h
-
-  made_state : (k : ℕ) → k < base → state_in (take (plan_width * base) p) k ≡ state_in p k
-  made_state k h = state_kept p (take (plan_width * base) p) base k made_same h
-
-  made_planned : Planned (take (plan_width * base) p)
-  made_planned = record {
-    few = rw made_count c.few;
-    higher = λ k h. let l : k < base = rw made_count at h in rw (made_state k l) (c.higher k l);
-    inside = λ k h. let l : k < base = rw made_count at h in rw (made_state k l, made_count) (c.inside k l);
-    small = λ k h. let l : k < base = rw made_count at h in rw (made_same (plan_width * k + 2) (omega arith)) (c.small k l);
-  }
-
-  made_states : states_in (take (plan_width * base) p) ≡ states_of_first b i
-  unfolding states_in
-  made_states = rw made_count (up_to_same (state_in (take (plan_width * base) p)) (state_in p) base made_state ∙ c.states)
-
-  pub making_all : f ≤ i → Made b p₀ p (plan_width * base)
+  pub making_all : filter_count b ≤ i → PlanOf p b
   unfolding states_of
-  making_all h =
-      let e : i ≡ filter_count b = omega (arith, c.filters) in
-      record {
-        plan = record { planned = made_planned; states = made_states ∙ ap (states_of_first b) e };
-        within = omega (arith, c.few, c.room);
-        count = rw (c.count, e);
-        long = c.long;
-        past = c.past;
+  making_all h = record { planned = planned; states = all }
+    where
+      all : states_in p ≡ states_of b
+      all = let e : i ≡ filter_count b = omega (arith, c.within) in c.states ∙ ap (states_of_first b) e
+
+      long : length (states_of b) ≡ state_count p
+      long = ap length (sym all) ∙ states_long p
+
+      at_state : (k : ℕ) → k < state_count p → get_or (states_of b) k TRUE ≡ state_in p k
+      at_state k u = ap (λ (l : List State). get_or l k TRUE) (sym all) ∙ states_at p k u
+
+      planned : Planned p
+      planned = record {
+        few = let e : i ≡ filter_count b = omega (arith, c.within) in omega (arith, c.count, ap (states_before b) e, (accepted b c.ok).states);
+        higher = λ k u. rw at_state at (fine.higher k (rw long u));
+        inside = λ k u. rw (at_state, long) at (fine.inside k (rw long u));
       }
 
-pub ruleset make_laws = (table_inside, making_none, making_entry, making_few, making_room, making_more, making_long, making_all)
+pub ruleset make_laws = (making_none, making_few, making_room, making_leads, making_more, making_all)

@@ -1,24 +1,27 @@
--- The tests of one state and of one body that refusals 6 and 7 make.
+-- What refusals 6 and 7 ask of a test: what it answers of one state, whether it passes somewhere in the book, and that
+-- the numbers of a state are read where they stand.
 use Rattle.std.specs.Prelude.{◌≡◌, Bool, false, not, List, ℕ, ◌+◌, ◌*◌, ◌<◌, ◌≤◌, length, get_or}
 use Rattle.std.proofs.Common.{arith}
-use Rattle.lists.specs.Below.{some_below}
+use Rattle.lists.specs.Below.{AnyBelow, some_below}
+use Rattle.lists.specs.Below.Laws.{some_below_is}
 use Rattle.rules.specs.Bytes.{le2}
-use Rattle.rules.specs.Book.{state_width, filter_count, body_start, body_size, bodies_astray, is_row, leads_well, row_at, leads_at, bad_rows, bad_successors}
+use Rattle.rules.specs.Book.{state_width, filter_count, body_start, body_size, bodies_astray, is_row, leads_well, row_at, leads_at}
 use Rattle.book_contents.specs.BookAccepted.{places, states_rise}
 
--- a test of state i of the body of n states at start
-abbrev pub StateTest : Type 0
-StateTest = List ℕ → ℕ → ℕ → ℕ → Bool
+-- what a test answers of state i of the body of n states at start: it is given the state's place, its number and the body's size
+pub record Answers (test : ℕ → ℕ → ℕ → Bool → Type 0) (start n i : ℕ) (t : Bool) : Type 0 where
+  pub given : test (start + state_width * i) i n t
 
-abbrev pub no_row : StateTest
-no_row b start n i = not (row_at b (start + state_width * i))
+-- r says whether some state of some body passes the test
+abbrev pub SomeState : (ℕ → ℕ → ℕ → Bool → Type 0) → List ℕ → Bool → Type 0
+SomeState test b r = AnyBelow (λ k. AnyBelow (Answers test (body_start b k) (body_size b k)) (body_size b k)) (filter_count b) r
 
-abbrev pub astray : StateTest
-astray b start n i = not (leads_at b (start + state_width * i) i n)
-
--- some state of filter k's body passes the test
-abbrev pub some_of : StateTest → List ℕ → ℕ → Bool
-some_of test b k = some_below (test b (body_start b k) (body_size b k)) (body_size b k)
+pub some_states : {test : ℕ → ℕ → ℕ → Bool → Type 0} (b : List ℕ) (p : ℕ → ℕ → ℕ → Bool) (r : Bool) → SomeState test b r
+    → ((at i n : ℕ) (t : Bool) → test at i n t → t ≡ p at i n)
+    → r ≡ some_below (λ k. some_below (λ i. p (body_start b k + state_width * i) i (body_size b k)) (body_size b k)) (filter_count b)
+some_states {test} b p r a e =
+    some_below_is _ {answers = λ k. AnyBelow (Answers test (body_start b k) (body_size b k)) (body_size b k)} (filter_count b) r a
+    (λ k t h d. some_below_is _ {answers = Answers test (body_start b k) (body_size b k)} (body_size b k) t d (λ i u l f. e _ i _ u f.given))
 
 -- a state from the numbers that were read
 pub no_row_is : (b : List ℕ) (at kind one x y z : ℕ) (r : Bool) → kind ≡ get_or b at 0 → one ≡ get_or b (at + 1) 0 → x ≡ le2 b (at + 2) → y ≡ le2 b (at + 4) → z ≡ le2 b (at + 6)
@@ -29,29 +32,7 @@ pub astray_is : (b : List ℕ) (at i n kind x y : ℕ) (r : Bool) → kind ≡ g
     → r ≡ leads_well kind x y i n → not r ≡ not (leads_at b at i n)
 astray_is b at i n kind x y r ek ex ey e = rw (e, ek, ex, ey)
 
--- state i, read at its place p
-module _ (b : List ℕ) (start n i : ℕ) {p : ℕ} (place : p ≡ start + state_width * i) {t : Bool} where
-  pub no_row_at : t ≡ not (row_at b p) → t ≡ no_row b start n i
-  no_row_at e = rw (← place) e
-
-  pub astray_at : t ≡ not (leads_at b p i n) → t ≡ astray b start n i
-  astray_at e = rw (← place) e
-
--- a body from the numbers that were read: its start s and size n, and f filters
-module _ (b : List ℕ) (k : ℕ) {s n : ℕ} (start : s ≡ body_start b k) (size : n ≡ body_size b k) where
-  -- where it must be, it lies inside the book
-  pub inside : {f : ℕ} → f ≡ filter_count b → k < f → bodies_astray b ≡ false → s + state_width * n ≤ length b
-  inside {f} e h g = let l : k < filter_count b = omega arith in let d = places b g in omega (arith, d.0 k l, d.1, states_rise b k (filter_count b) l)
-
-  pub body_is : (test : StateTest) {t : Bool} → t ≡ some_below (test b s n) n → t ≡ some_of test b k
-  body_is test e = rw (← start, ← size) e
-
--- all bodies
-module _ (b : List ℕ) {f : ℕ} (count : f ≡ filter_count b) {t : Bool} where
-  pub bad_rows_is : t ≡ some_below (some_of no_row b) f → t ≡ bad_rows b
-  unfolding bad_rows
-  bad_rows_is e = rw (← count) e
-
-  pub bad_successors_is : t ≡ some_below (some_of astray b) f → t ≡ bad_successors b
-  unfolding bad_successors
-  bad_successors_is e = rw (← count) e
+-- a body where it must be lies inside the book
+pub inside : (b : List ℕ) (k : ℕ) {s n f : ℕ} → s ≡ body_start b k → n ≡ body_size b k → f ≡ filter_count b → k < f → bodies_astray b ≡ false → s + state_width * n ≤ length b
+inside b k start size e h g =
+    let l : k < filter_count b = omega arith in let d = places b g in omega (arith, d.0 k l, d.1, states_rise b k (filter_count b) l)

@@ -1,42 +1,45 @@
 // Refusals 6 and 7 of a book whose bodies are where they must be: states that are no row of the table of kinds, and
 // successors that lead astray.
-// Its `pub` is for sister crates only. A state's 8 bytes are read once and decided on as plain numbers. Read next:
+// Its `pub` is for sister crates only. A state's 8 bytes are read once, and decided on by its kind. Read next:
 // book_check.
 #![tactic(auto)]
 
-ghost use Rattle.std.specs.Prelude.{◌≡◌, not, false, ◌+◌, ◌*◌, ◌<◌, ◌≤◌, length};
-ghost use Rattle.lists.specs.Below.{some_below};
+ghost use Rattle.std.specs.Prelude.{◌≡◌, ℕ, not, false, ◌^◌, ◌+◌, ◌*◌, ◌<◌, ◌≤◌, length};
+ghost use Rattle.lists.specs.Below.{AnyBelow};
 ghost use Rattle.rules.specs.Bytes.{entry_at};
 ghost use Rattle.rules.specs.Book.{state_width, filter_count, bodies_astray, is_row, leads_well, row_at, leads_at};
 ghost use Rattle.rules.specs.Book.{bad_rows, bad_successors};
-ghost use Rattle.book_rows.specs.Rows.{no_row, astray};
+ghost use Rattle.book_rows.specs.Rows.{Answers, SomeState};
 
+use book_contents::Kind;
+
+// The kind comes as its number, as the rules' is_row and leads_well have it.
+#[tactic(auto, unfolding(rules::specs::Book::is_row, lists::specs::Choice::pick))]
 fn is_row(kind: u64, one: u64, x: u64, y: u64, z: u64) -> bool
     ensures { result ≡ is_row kind one x y z }
 {
-    match kind {
-        0 => (one == 0) & (x == 0) & (y == 0) & (z == 0),
-        1 => (1 <= one) & (one <= 6) & (x == 0),
-        2 => (one == 0) & (z == 0),
-        3 => (one == 0) & (z == 0),
-        4 => (one == 0) & (y == 0) & (z == 0),
-        5 => (one == 0) & (z == 0),
-        _ => false,
+    match Kind::try_from(kind) {
+        Ok(Kind::True) => one == 0 && x == 0 && y == 0 && z == 0,
+        Ok(Kind::Leaf) => 1 <= one && one <= 6 && x == 0,
+        Ok(Kind::And | Kind::Or | Kind::Step) => one == 0 && z == 0,
+        Ok(Kind::Not) => one == 0 && y == 0 && z == 0,
+        Err(_) => false,
     }
 }
 
+#[tactic(auto, unfolding(rules::specs::Book::leads_well, lists::specs::Choice::pick))]
 fn leads_well(kind: u64, x: u64, y: u64, i: u64, n: u64) -> bool
     ensures { result ≡ leads_well kind x y i n }
 {
-    match kind {
-        2 => (i < x) & (x < n) & (i < y) & (y < n),
-        3 => (i < x) & (x < n) & (i < y) & (y < n),
-        4 => (i < x) & (x < n),
-        5 => y < n,
+    match Kind::try_from(kind) {
+        Ok(Kind::And | Kind::Or) => i < x && x < n && i < y && y < n,
+        Ok(Kind::Not) => i < x && x < n,
+        Ok(Kind::Step) => y < n,
         _ => true,
     }
 }
 
+#[tactic(auto, using(crate::specs::Rows::no_row_is))]
 fn no_row(book: &[u8], at: usize) -> bool
     requires { at + state_width ≤ length book.now }
     ensures { result ≡ not (row_at book.now at) }
@@ -53,6 +56,7 @@ fn no_row(book: &[u8], at: usize) -> bool
     )
 }
 
+#[tactic(auto, using(crate::specs::Rows::astray_is))]
 fn leads_astray(book: &[u8], at: usize, i: u64, n: u64) -> bool
     requires { at + state_width ≤ length book.now }
     ensures { result ≡ not (leads_at book.now at i n) }
@@ -62,30 +66,33 @@ fn leads_astray(book: &[u8], at: usize, i: u64, n: u64) -> bool
     !leads_well(number_bytes::byte(book, at), x, y, i, n)
 }
 
-fn bad_rows_of(book: &[u8], start: usize, n: usize) -> bool
-    requires { start + state_width * n ≤ length book.now }
-    ensures { result ≡ some_below (no_row book.now start n) n }
+// Whether a state of the body passes the test, which is given the state's place, its number and the body's size.
+fn some_of_body<F: Fn(usize, usize, usize) -> bool>(test: &F, start: usize, n: usize) -> bool
+    requires fits { start + state_width * n < 2 ^ 64 }
+    requires callable { (i : ℕ) → i < n → F.pre test.now (start + state_width * i) i n }
+    ensures { AnyBelow (Answers (F.post test.now) start n) n result }
 {
-    let mut i = 0;
-    while i < n {
-        if no_row(book, book_contents::state_at(start, i)) {
+    // A for: the test is a parameter, and any would need its contract twice.
+    for i in 0..n {
+        if test(book_contents::state_at(start, i), i, n) {
             return true;
         }
-        i += 1;
     }
     false
 }
 
-fn bad_successors_of(book: &[u8], start: usize, n: usize) -> bool
-    requires { start + state_width * n ≤ length book.now }
-    ensures { result ≡ some_below (astray book.now start n) n }
+// Whether a state of some body does.
+fn some_state<F: Fn(usize, usize, usize) -> bool>(book: &[u8], test: F) -> bool
+    requires placed { (entry_at (filter_count book.now) ≤ length book.now) × (bodies_astray book.now ≡ false) }
+    requires callable { (at i n : ℕ) → at + state_width ≤ length book.now → F.pre test at i n }
+    ensures { SomeState (F.post test) book.now result }
 {
-    let mut i = 0;
-    while i < n {
-        if leads_astray(book, book_contents::state_at(start, i), i as u64, n as u64) {
+    // A for, as above.
+    for k in 0..book_contents::filter_count(book) {
+        let start = book_contents::body_start(book, k);
+        if some_of_body(&test, start, book_contents::body_size(book, k)) {
             return true;
         }
-        i += 1;
     }
     false
 }
@@ -94,36 +101,13 @@ pub fn bad_rows(book: &[u8]) -> bool
     requires { (entry_at (filter_count book.now) ≤ length book.now) × (bodies_astray book.now ≡ false) }
     ensures { result ≡ bad_rows book.now }
 {
-    let f = book_contents::filter_count(book);
-    let mut k = 0;
-    while k < f {
-        if bad_rows_of(
-            book,
-            book_contents::body_start(book, k),
-            book_contents::body_size(book, k),
-        ) {
-            return true;
-        }
-        k += 1;
-    }
-    false
+    some_state(book, |at, _, _| no_row(book, at))
 }
 
 pub fn bad_successors(book: &[u8]) -> bool
     requires { (entry_at (filter_count book.now) ≤ length book.now) × (bodies_astray book.now ≡ false) }
     ensures { result ≡ bad_successors book.now }
 {
-    let f = book_contents::filter_count(book);
-    let mut k = 0;
-    while k < f {
-        if bad_successors_of(
-            book,
-            book_contents::body_start(book, k),
-            book_contents::body_size(book, k),
-        ) {
-            return true;
-        }
-        k += 1;
-    }
-    false
+    // A usize has no From into u64: as.
+    some_state(book, |at, i, n| leads_astray(book, at, i as u64, n as u64))
 }

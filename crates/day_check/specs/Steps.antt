@@ -18,6 +18,8 @@ pub off_is : (d : List ℕ) (n e : ℕ) → 2 ≤ length d → n ≡ message_cou
 unfolding day_off
 off_is d n e h count end = simp (le-ltb (length d) 2 h, end, count)
 
+pub ruleset off_laws = (off_bare, off_is)
+
 -- ── 10 ──
 abbrev pub Placed : List ℕ → ℕ → ℕ → ℕ → Type 0
 Placed d n place k = Laid (message_start d) (bytes_before d) (entry_at n) n place k
@@ -40,6 +42,8 @@ module _ (d : List ℕ) {n : ℕ} (count : n ≡ message_count d) where
 
   pub placed_all : {place k : ℕ} → Placed d n place k → n ≤ k → not (eqb (length d) place) ≡ messages_astray d
   placed_all g h = laid_all (length d) g h ∙ placed_is d n count
+
+pub ruleset placed_laws = (placed_hit, placed_all)
 
 -- ── the three in their order ──
 abbrev from10 : List ℕ → List Check

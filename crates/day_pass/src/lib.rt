@@ -9,55 +9,22 @@ ghost use Rattle.rules.specs.Run.{row_width, pass_day};
 ghost use Rattle.rules.specs.Promise.{lent};
 ghost use Rattle.memory_ask.specs.Ask.{carried_in};
 ghost use Rattle.memory_index.specs.Index.{Indexed};
-ghost use Rattle.day_pass.specs.Passing.{MessageReady, PassReady, MessageRead};
-ghost use Rattle.day_pass.specs.Passing.{MessageWritten, PassedUpTo, pass_returned};
+ghost use Rattle.day_pass.specs.Passing.{MessageReady, PassReady, MessageWritten, PassedUpTo, pass_returned};
 
+use book_check::Book;
+use book_plan::Plan;
+use day_check::Day;
 use memory_ask::Counts;
+use memory_index::SlotIndex;
 
-// A message's answer numbers, and the counts after it.
-#[derive(Clone, Copy)]
-struct Row {
-    refusal: u64,
-    place: usize,
-    filters: u64,
-    counts: Counts,
-}
-
-// Message k read, and its filters found.
+// Message k read, its filters found and its row written. What is lent comes one by one: a struct of references makes
+// each contract longer.
 fn message(
-    book: &[u8],
-    day: &[u8],
+    book: &Book<'_>,
+    day: &Day<'_>,
     k: usize,
-    plan: &[u64],
-    index: &mut [u16],
-    memory: &mut [u64],
-    workspace: &mut [u64],
-    c: Counts,
-) -> Row
-    requires { MessageReady book.now day.now k plan.now index.old memory.old workspace.old c }
-    ensures message_read { MessageRead book.now day.now k memory.old workspace.old c result memory.new workspace.new }
-    ensures indexed { Indexed index.new memory.new result.counts.filled }
-{
-    let body = day_check::message_body(day, k);
-    let e = message_reading::read(body, plan, index, memory, workspace, c);
-    let refusal = e.refusal;
-    let filters = day_row::root_filters(book, plan, workspace, refusal);
-    let counts = e.counts;
-    Row {
-        refusal: refusal,
-        place: e.place,
-        filters: filters,
-        counts: counts,
-    }
-}
-
-// Message k, its row written.
-fn one(
-    book: &[u8],
-    day: &[u8],
-    k: usize,
-    plan: &[u64],
-    index: &mut [u16],
+    plan: &Plan,
+    index: &mut SlotIndex,
     memory: &mut [u64],
     answers: &mut [u64],
     workspace: &mut [u64],
@@ -69,18 +36,20 @@ fn one(
         result memory.new answers.new workspace.new }
     ensures indexed { Indexed index.new memory.new result.filled }
 {
-    let r = message(book, day, k, plan, index, memory, workspace, c);
-    day_row::write_row(answers, k, r.refusal, r.place, r.filters);
-    let next = r.counts;
-    next
+    let body = day.message_body(k);
+    let e = message_reading::read(body, plan, index, memory, workspace, c);
+    let filters = day_row::root_filters(book, plan, workspace, e.read);
+    day_row::write_row(answers, k, filters);
+    e.counts
 }
 
 // All messages, one after the other, the memory and the counts handed on.
+#[tactic(auto, using(crate::specs::Passing::passing_laws))]
 fn all(
-    book: &[u8],
-    day: &[u8],
-    plan: &[u64],
-    index: &mut [u16],
+    book: &Book<'_>,
+    day: &Day<'_>,
+    plan: &Plan,
+    index: &mut SlotIndex,
     memory: &mut [u64],
     answers: &mut [u64],
     workspace: &mut [u64],
@@ -91,22 +60,20 @@ fn all(
         (message_count day.now) result memory.new answers.new workspace.new }
     ensures indexed { Indexed index.new memory.new result.filled }
 {
-    let count = day_check::message_count(day);
+    let count = day.message_count();
     let mut c = from;
-    let mut k = 0;
-    while k < count {
-        c = one(book, day, k, plan, index, memory, answers, workspace, c);
-        k += 1;
+    for k in 0..count {
+        c = message(book, day, k, plan, index, memory, answers, workspace, c);
     }
     c
 }
 
 // The whole pass: the messages, then the levels cleared.
 pub fn pass(
-    book: &[u8],
-    day: &[u8],
-    plan: &[u64],
-    index: &mut [u16],
+    book: &Book<'_>,
+    day: &Day<'_>,
+    plan: &Plan,
+    index: &mut SlotIndex,
     memory: &mut [u64],
     answers: &mut [u64],
     workspace: &mut [u64],

@@ -1,15 +1,12 @@
 -- What a run that is not refused has, and a pass from filled slots: section "Refusal numbers", read the other way round.
-use Rattle.std.specs.Prelude.{◌≡◌, List, ℕ, ◌*◌, ◌<◌, ◌≤◌, length}
-use Rattle.rules.specs.Book.{book_refusal}
-use Rattle.rules.specs.DayFile.{message_count, day_refusal}
+use Rattle.std.specs.Prelude.{List, ℕ, ◌*◌, ◌<◌, ◌≤◌, length}
+use Rattle.rules.specs.DayFile.{message_count}
 use Rattle.rules.specs.Memory.{slots_lent}
 use Rattle.rules.specs.Run.{row_width, workspace_width}
 use Rattle.rules.specs.Calls.{count_limit}
 use Rattle.memory_ask.specs.declared.Counts.{Counts}
 
-pub record RunAccepted (book day memory answers workspace : List ℕ) (c : Counts) : Type 0 where
-  pub reads : book_refusal book ≡ 0
-  pub laid : day_refusal day ≡ 0
+pub record RunAccepted (day memory answers workspace : List ℕ) (c : Counts) : Type 0 where
   pub room : row_width * message_count day ≤ length answers
   pub levels : workspace_width ≤ length workspace
   pub lent : c.filled ≤ slots_lent memory

@@ -3,10 +3,10 @@
 // What it prints is tested, not proved; all that matters is in day_run.
 #![tactic(auto)]
 
-ghost use Rattle.std.specs.Prelude.{◌+◌, ◌*◌, ◌<◌, ◌≤◌, length};
+ghost use Rattle.std.specs.Prelude.{◌<◌, ◌≤◌, length};
 ghost use Rattle.rules.specs.Book.{most_filters};
-ghost use Rattle.rules.specs.Run.{row_width};
 
+use day_row::ROW;
 use day_run::Total;
 use std::fs::File;
 use std::io;
@@ -27,6 +27,7 @@ fn read_full(file: &mut impl Read, buf: &mut [u8]) -> usize
     ensures { result ≤ length buf.new }
 {
     let mut done = 0;
+    // An input of unknown length, no count: a while.
     while done < buf.len() {
         let n = file.read(&mut buf[done..]).unwrap_or(0);
         if n == 0 {
@@ -41,14 +42,7 @@ fn read_full(file: &mut impl Read, buf: &mut [u8]) -> usize
 fn load(rt: &impl Files, path: &str, buf: &mut [u8]) -> usize
     ensures { result ≤ length buf.new }
 {
-    match File::open(rt, path) {
-        Ok(mut file) => read_full(&mut file, buf),
-        Err(_) => 0,
-    }
-}
-
-fn put(rt: &impl Print, n: u64) -> io::Result<()> {
-    print!(rt; " {n}")
+    File::open(rt, path).map_or(0, |mut file| read_full(&mut file, buf))
 }
 
 // The id of filter k, where it is true.
@@ -57,51 +51,27 @@ fn put_id(rt: &impl Print, book: &[u8], filters: u64, k: usize) -> io::Result<()
 {
     let at = number_bytes::entry_at(k);
     if (filters >> k) % 2 == 1 && at + 4 <= book.len() {
-        put(rt, number_bytes::read4(book, at))?;
+        print!(rt; " {}", number_bytes::read4(book, at))?;
     }
     Ok(())
 }
 
-// The ids of the true filters, in contents order.
-fn put_ids(rt: &impl Print, book: &[u8], filters: u64) -> io::Result<()> {
-    let mut k: usize = 0;
-    while k < book_contents::FILTERS {
-        put_id(rt, book, filters, k)?;
-        k += 1;
+// Message k's row, with the ids of the true filters in contents order.
+fn put_row(rt: &impl Print, book: &[u8], k: usize, row: &[u64; ROW]) -> io::Result<()> {
+    let [refusal, place, filters] = *row;
+    print!(rt; "{k} {refusal} {place}")?;
+    for f in 0..book_contents::FILTERS {
+        put_id(rt, book, filters, f)?;
     }
-    Ok(())
-}
-
-fn put_row(rt: &impl Print, book: &[u8], answers: &[u64], k: usize) -> io::Result<()>
-    requires { row_width * k + row_width ≤ length answers.now }
-{
-    let a = day_row::ROW * k;
-    rt.print(k as u64 + 1)?;
-    put(rt, answers[a])?;
-    put(rt, answers[a + 1])?;
-    put_ids(rt, book, answers[a + 2])?;
     println!(rt)
 }
 
-fn put_rows(rt: &impl Print, book: &[u8], answers: &[u64], count: usize) -> io::Result<()>
-    requires { row_width * count ≤ length answers.now }
-{
-    let mut k: usize = 0;
-    while k < count {
-        put_row(rt, book, answers, k)?;
-        k += 1;
+fn put_rows(rt: &impl Print, book: &[u8], answers: &[u64], count: usize) -> io::Result<()> {
+    let (rows, _) = answers.as_chunks::<ROW>();
+    for (k, row) in (1..=count).zip(rows) {
+        put_row(rt, book, k, row)?;
     }
     Ok(())
-}
-
-fn put_total(rt: &impl Print, t: Total, count: usize) -> io::Result<()> {
-    rt.write_all(b"total")?;
-    put(rt, t.refusal)?;
-    put(rt, count as u64)?;
-    put(rt, t.asked)?;
-    put(rt, t.anew)?;
-    put(rt, t.filled as u64)?;
-    println!(rt)
 }
 
 fn show(
@@ -112,15 +82,17 @@ fn show(
     answers: &mut [u64],
     workspace: &mut [u64],
 ) -> io::Result<()> {
-    let t = day_run::run(book, day, memory, answers, workspace);
-    if t.refusal != 0 || day.len() < 2 {
-        return put_total(rt, t, 0);
-    }
-    let count = number_bytes::read2(day, 0) as usize;
-    if day_row::ROW * count <= answers.len() {
-        put_rows(rt, book, answers, count)?;
-    }
-    put_total(rt, t, count)
+    let given = day_run::run(book, day, memory, answers, workspace);
+    let count = match day {
+        [a, b, ..] if given.is_ok() => usize::from(u16::from_le_bytes([*a, *b])),
+        _ => 0,
+    };
+    let t = Total::from(given);
+    put_rows(rt, book, answers, count)?;
+    println!(rt;
+        "total {} {count} {} {} {}",
+        t.refusal, t.asked, t.anew, t.filled
+    )
 }
 
 fn main(rt: HostRuntime) -> io::Result<()> {
@@ -133,12 +105,12 @@ fn main(rt: HostRuntime) -> io::Result<()> {
         return println!(rt; "too long");
     }
     let mut memory = [0u64; SLOTS * memory_slots::SLOT];
-    let mut answers = [0u64; MESSAGES * day_row::ROW];
+    let mut answers = [0u64; MESSAGES * ROW];
     let mut workspace = [0u64; message_levels::WORKSPACE];
     show(
         &rt,
-        &book[0..nb],
-        &day[0..nd],
+        &book[..nb],
+        &day[..nd],
         &mut memory,
         &mut answers,
         &mut workspace,

@@ -1,7 +1,8 @@
 -- A law for each way out of the refusals of the run and of the pass.
-use Rattle.std.specs.Prelude.{◌≡◌, true, false, ◌||◌, List, [], ◌∷◌, ◌++◌, ℕ, ◌*◌, ◌<◌, ◌≤◌, eqb, leb, length}
+use Rattle.std.specs.Prelude.{◌≡◌, true, false, ◌||◌, [], ◌∷◌, ◌++◌, ℕ, ◌*◌, ◌<◌, ◌≤◌, eqb, leb, length}
 use Rattle.std.proofs.Math.Path.{refl, ap}
-use Rattle.std.proofs.Common.{sym, ◌∙◌, eq-eqb, ne_eqb, lt-ltb, le-ltb}
+use Rattle.std.proofs.Common.{sym, ◌∙◌, arith, eq-eqb, ne_eqb, lt-ltb, le-ltb}
+use Rattle.std.proofs.lemmas.Bool.{le-leb, lt-leb}
 use Rattle.lists.specs.Choice.{pick}
 use Rattle.lists.specs.Checks.{first_of}
 use Rattle.lists.specs.Choice.Laws.{pick_true, pick_false}
@@ -12,7 +13,9 @@ use Rattle.rules.specs.Memory.{slots_lent}
 use Rattle.rules.specs.Run.{row_width, workspace_width, Lent, lent_checks, run_checks, run_refusal}
 use Rattle.rules.proofs.Run.Laws.{no_zero_lem}
 use Rattle.rules.specs.Calls.{count_limit, Counts, count_checks, pass_refusal}
-use Rattle.day_check.specs.DayAccepted.{day_two}
+use Rattle.refusals.specs.declared.Refusal.{Refusal}
+use Rattle.refusals.specs.Numbers.{number_of}
+use Rattle.refusals.specs.Laws.{number_positive}
 
 module _ (l : Lent) where
   -- ── the run ──
@@ -72,8 +75,22 @@ module _ (l : Lent) where
           pub from_counts : leb count_limit from.asked || leb count_limit from.anew ≡ true → 19 ≡ pass_refusal l from
           from_counts t = sym (past_filled ∙ first_fails 19 _ _ t)
 
+          pub from_asked : count_limit ≤ from.asked → 19 ≡ pass_refusal l from
+          from_asked h = from_counts (rw (le-leb _ _ h) refl)
+
+          pub from_anew : from.asked < count_limit → count_limit ≤ from.anew → 19 ≡ pass_refusal l from
+          from_anew h k = from_counts (rw (lt-leb _ _ h, le-leb _ _ k) refl)
+
           pub from_none : leb count_limit from.asked || leb count_limit from.anew ≡ false → 0 ≡ pass_refusal l from
           from_none t = sym (past_filled ∙ first_passes 19 _ _ t ∙ first_end)
 
-pub two_bytes : (d : List ℕ) (n : ℕ) → n ≡ day_refusal d → n ≡ 0 → 2 ≤ length d
-two_bytes d n e z = day_two d (sym e ∙ z)
+          pub from_few : from.asked < count_limit → from.anew < count_limit → 0 ≡ pass_refusal l from
+          from_few h k = from_none (rw (lt-leb _ _ h, lt-leb _ _ k) refl)
+
+-- no refusal has the number 0
+pub some_refusal : (e : Refusal) → number_of e ≡ 0 → ⊥
+some_refusal e z = omega (arith, number_positive e, z)
+
+pub ruleset run_laws = (refused_book, refused_day, refused_answers, refused_levels, refused_none, some_refusal)
+
+pub ruleset pass_laws = (from_run, from_filled, from_asked, from_anew, from_few, some_refusal)

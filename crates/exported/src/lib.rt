@@ -1,6 +1,6 @@
 // The public calls for other languages: built by `rt lib` in this folder, and declared in include/esquirmell.h. Each
-// hands its arguments on to a call of day_run, memory_question or book_filter_body, and has its promise. A slice is a
-// pointer and then a count.
+// hands its arguments on to a call of day_run, memory_question or book_filter_body, and has its promise; a Result comes
+// to a number and counts. A slice is a pointer and then a count.
 #![tactic(auto)]
 
 ghost use Rattle.rules.specs.Calls.{counts};
@@ -24,7 +24,7 @@ pub extern "C" fn esquirmell_run(
     ensures { RunPromise (lent book.now day.now memory.old answers.old workspace.old)
         (returned result memory.new answers.new workspace.new) }
 {
-    day_run::run(book, day, memory, answers, workspace)
+    Total::from(day_run::run(book, day, memory, answers, workspace))
 }
 
 #[unsafe(no_mangle)]
@@ -41,7 +41,7 @@ pub extern "C" fn esquirmell_pass(
     ensures { PassPromise (lent book.now day.now memory.old answers.old workspace.old) (counts asked anew filled)
         (returned result memory.new answers.new workspace.new) }
 {
-    day_run::pass_from(book, day, memory, answers, workspace, asked, anew, filled)
+    Total::from(day_run::pass_from(book, day, memory, answers, workspace, asked, anew, filled))
 }
 
 #[unsafe(no_mangle)]
@@ -56,7 +56,7 @@ pub extern "C" fn esquirmell_ask(
     ensures { QuestionPromise (question_lent book.now memory.old filled anew question.now answer.old)
         (question_returned result memory.new answer.new) }
 {
-    memory_question::answer_question(book, memory, filled, anew, question, answer)
+    Answered::from(memory_question::answer_question(book, memory, filled, anew, question, answer))
 }
 
 #[unsafe(no_mangle)]

@@ -2,8 +2,6 @@
 -- comes back.
 use Rattle.std.specs.Prelude.{ℕ, List, ◌++◌, length, take, drop}
 pub mod Laws
-pub mod Copying
-pub mod Clearing
 pub mod Examples
 
 unfoldable pub part : List ℕ → ℕ → ℕ → List ℕ

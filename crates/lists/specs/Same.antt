@@ -1,7 +1,5 @@
 -- Whether two lists of numbers are the same.
 use Rattle.std.specs.Prelude.{Bool, true, false, ◌&&◌, List, [], ◌∷◌, ℕ, eqb}
-pub mod Comparing
-pub mod Examples
 
 unfoldable pub same_list : List ℕ → List ℕ → Bool
 same_list [] [] = true

@@ -1,5 +1,5 @@
 -- The laws that the inner call is proved by: one for each way through it. Then what a caller's counts need of any answer.
-use Rattle.std.specs.Prelude.{◌≡◌, refl, Bool, true, false, List, ℕ, ◌+◌, ◌≤◌, ◌<◌, ltb, length}
+use Rattle.std.specs.Prelude.{◌≡◌, refl, Option as Answer, None, Some, Bool, true, false, List, ℕ, ◌+◌, ◌≤◌, ◌<◌, ltb, length}
 use Rattle.std.proofs.Math.Path.{sym, ap}
 use Rattle.std.proofs.Common.{◌∙◌, arith, ltb-true, ltb-false}
 use Rattle.std.proofs.Math.Option.{Option, none, some}
@@ -10,24 +10,22 @@ use Rattle.rules.proofs.Memory.Key.{key_of_lem}
 use Rattle.rules.proofs.Memory.Laws.{slot_some, kept_answer, fresh_kept, fresh_full}
 use Rattle.rules.specs.Pass.{Carried, ask_next}
 use Rattle.memory_slots.specs.Slots.{HasSlot, with_slot}
-use Rattle.memory_index.specs.declared.Found.{Found}
-use Rattle.memory_index.specs.declared.Found.TheVariants.{At, Nothing}
 use Rattle.memory_index.specs.Index.{meant, Indexed}
 use Rattle.memory_ask.specs.declared.Counts.{Counts}
 use Rattle.memory_ask.specs.Ask.{carried_in, replied}
 
 -- what was found
-module _ (m : List ℕ) (n : ℕ) (q : Question) (r : Found) (found : meant r ≡ first_slot m n q) where
-  pub found_some : (i : ℕ) → r ≡ At i → first_slot m n q ≡ some i
+module _ (m : List ℕ) (n : ℕ) (q : Question) (r : Answer ℕ) (found : meant r ≡ first_slot m n q) where
+  pub found_some : (i : ℕ) → r ≡ Some i → first_slot m n q ≡ some i
   unfolding meant
   found_some i d = sym found ∙ ap meant d
 
-  pub found_none : r ≡ Nothing → first_slot m n q ≡ none
+  pub found_none : r ≡ None → first_slot m n q ≡ none
   unfolding meant
   found_none d = sym found ∙ ap meant d
 
   -- it is one of those filled
-  pub found_room : (x : List ℕ) (i : ℕ) → Indexed x m n → r ≡ At i → HasSlot m i
+  pub found_room : (x : List ℕ) (i : ℕ) → Indexed x m n → r ≡ Some i → HasSlot m i
   found_room x i g d = omega (arith, (slot_some m n q i (found_some i d)).filled, g.fits)
 
 pub worked_out : (b : List State) (w l s : List ℕ) (x : ℕ) → l ≡ work_out b (record { states = s; label = x }) → s ≡ (question_in w).states
@@ -39,7 +37,7 @@ module _ (b : List State) (m w l : List ℕ) (c : Counts) where
   abbrev counted : Reply → List ℕ × Carried
   counted r = (r.answer, record { asked = c.asked + 1; kept = r.kept })
 
-  pub ask_found : (r : Found) (i : ℕ) → meant r ≡ first_slot m c.filled (question_in w) → r ≡ At i → l ≡ slot_answer m i
+  pub ask_found : (r : Answer ℕ) (i : ℕ) → meant r ≡ first_slot m c.filled (question_in w) → r ≡ Some i → l ≡ slot_answer m i
       → replied l m (record { asked = c.asked + 1; anew = c.anew; filled = c.filled }) ≡ ask_next b (question_in w) (carried_in m c)
   ask_found r i f d e =
       rw e (sym (ap counted (kept_answer b (question_in w) (carried_in m c).kept i (found_some m c.filled (question_in w) r f i d))))

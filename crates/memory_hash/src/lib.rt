@@ -3,7 +3,7 @@
 // Callers use one fact of it, that it is below the count of heads. Read next: memory_index.
 #![tactic(auto)]
 
-ghost use Rattle.std.specs.Prelude.{◌≡◌, ◌^◌, ◌<◌, length};
+ghost use Rattle.std.specs.Prelude.{◌≡◌, ◌<◌, length};
 ghost use Rattle.rules.specs.Memory.{question_width};
 ghost use Rattle.memory_hash.specs.Hash.{lane_of, hash_of, heads};
 
@@ -13,27 +13,37 @@ pub const HEADS: usize = 8192;
 // 2^32.
 const HALF: u64 = 4294967296;
 
+// What each of a question's nine numbers is moved on by, its lower half and its upper.
+const MOVES: [(u32, u32); 9] = [
+    (2654435769, 1640531527),
+    (2246822519, 3266489917),
+    (668265263, 374761393),
+    (3432918353, 461845907),
+    (2654435761, 3864292196),
+    (2127912214, 3345072700),
+    (3042594569, 4251993797),
+    (1181783497, 2860486313),
+    (1540483477, 2971215073),
+];
+
 // A number's two halves, each moved on by a number, multiplied.
-fn lane(w: u64, a: u64, b: u64) -> u64
-    requires { (a < 2 ^ 32) × (b < 2 ^ 32) }
+#[tactic(auto, using(crate::specs::Hash::lane_fits), unfolding(crate::specs::Hash::lane_of))]
+fn lane(w: u64, a: u32, b: u32) -> u64
     ensures { result ≡ lane_of w a b }
 {
-    (w % HALF + a) % HALF * ((w / HALF + b) % HALF)
+    (w % HALF + u64::from(a)) % HALF * ((w / HALF + u64::from(b)) % HALF)
 }
 
 // The nine products joined, and of that the upper half.
+#[tactic(auto, using(crate::specs::Hash::joining_laws))]
 pub fn hash(q: &[u64]) -> usize
     requires { length q.now ≡ question_width }
     ensures { (result ≡ hash_of q.now) × (result < heads) }
 {
-    let s = lane(q[0], 2654435769, 1640531527)
-        ^ lane(q[1], 2246822519, 3266489917)
-        ^ lane(q[2], 668265263, 374761393)
-        ^ lane(q[3], 3432918353, 461845907)
-        ^ lane(q[4], 2654435761, 3864292196)
-        ^ lane(q[5], 2127912214, 3345072700)
-        ^ lane(q[6], 3042594569, 4251993797)
-        ^ lane(q[7], 1181783497, 2860486313)
-        ^ lane(q[8], 1540483477, 2971215073);
-    (s >> 32) as usize % HEADS
+    let mut joined = 0;
+    for (w, (a, b)) in q.iter().zip(&MOVES) {
+        joined ^= lane(*w, *a, *b);
+    }
+    // A u64 has no From into usize: as.
+    (joined >> 32) as usize % HEADS
 }

@@ -1,9 +1,12 @@
 -- The laws that the code of the index is proved by: one for each way through it.
-use Rattle.std.specs.Prelude.{◌≡◌, refl, Bool, true, false, List, length, get_or, set, replicate}
+use Rattle.std.specs.Prelude.{◌≡◌, refl, Option as Answer, None, Some, is_some, Bool, true, false, List, [], ◌∷◌, ◌++◌, nat_eq, length, get_or, set, replicate}
 use Rattle.std.proofs.Math.Path.{sym, ap}
-use Rattle.std.proofs.Common.{◌∙◌, arith, add-one}
+use Rattle.std.proofs.Common.{◌∙◌, arith, add-one, true≢false}
+use Rattle.std.proofs.lemmas.Bool.{false≢true}
+use Rattle.std.proofs.lemmas.List.{replicate-append-replicate, length-replicate, get_or_append_left, get_or-append-add, set-append_left, set-append_right}
 use Rattle.std.proofs.Math.Option.{none, some}
 use Prim.Native.Nat.{ℕ, zero, suc, ◌+◌, ◌-◌, ◌≤◌, ◌<◌}
+use Rattle.std.specs.Cmp.Lexicographic.{pointwise}
 use Rattle.lists.specs.Choice.{pick}
 use Rattle.lists.specs.Same.{same_list}
 use Rattle.rules.specs.Sets.{set_width}
@@ -11,8 +14,6 @@ use Rattle.rules.specs.Memory.{question_width, question_in, slot_question, slots
 use Rattle.rules.proofs.Memory.Laws.{lent_fits, lent_same}
 use Rattle.memory_slots.specs.Slots.{with_slot, lent_few, lent_has, first_agree, first_none, kept_long, kept_asks, kept_before}
 use Rattle.memory_hash.specs.Hash.{heads, hash_of, hash_small}
-use Rattle.memory_index.specs.declared.Found.{Found}
-use Rattle.memory_index.specs.declared.Found.TheVariants.{At, Nothing}
 use Rattle.memory_index.specs.Index.{index_room, meant, first_by, is_first, entered, index_of, Indexed}
 use Rattle.memory_index.proofs.Chains.{enters, last_of, by_other, by_entered, last_first, last_le, last_enters, Chained, chained}
 
@@ -36,6 +37,16 @@ index_more m n = refl
 
 pub indexed_none : (x m l : List ℕ) → x ≡ replicate (length l) 0 → length l ≡ index_room → Indexed x m 0
 indexed_none x m l e h = rw (e, h, ← index_none m) (indexed_is m 0 (omega arith))
+
+-- its two parts begin empty
+begun : (x m : List ℕ) (j k : ℕ) → x ≡ replicate {A = ℕ} j 0 ++ replicate {A = ℕ} k 0 → j + k ≡ index_room → Indexed x m 0
+begun x m j k e h =
+    let f : x ≡ replicate {A = ℕ} (j + k) 0 = e ∙ replicate-append-replicate {A = ℕ} j k 0 in
+    let g : length x ≡ j + k = ap length f ∙ length-replicate {A = ℕ} (j + k) 0 in
+    indexed_none x m x (f ∙ ap (λ (n : ℕ). replicate {A = ℕ} n 0) (sym g)) (g ∙ h)
+
+pub indexed_begun : (m a b u v : List ℕ) → a ≡ replicate (length u) 0 → b ≡ replicate (length v) 0 → length u + length v ≡ index_room → Indexed (a ++ b) m 0
+indexed_begun m a b u v e f h = begun _ m (length u) (length v) (rw (e, f)) h
 
 module _ (x m : List ℕ) (n : ℕ) (g : Indexed x m n) (free : n < slots_lent m) where
   indexed_next : (x' : List ℕ) → x' ≡ index_of m (suc n) → Indexed x' m (n + 1)
@@ -98,7 +109,7 @@ module _ (m q : List ℕ) (n p : ℕ) (w : Walking m q n p) (more : 0 < p) where
     asks : b ≡ same_list (slot_question m (p - 1)) q
     asks = rw lent at e
 
-    pub walking_here : b ≡ true → meant (At (p - 1)) ≡ first_by m n q
+    pub walking_here : b ≡ true → meant (Some (p - 1)) ≡ first_by m n q
     unfolding meant
     walking_here f = sym (by_entered m q w.long (p - 1) (hash_of q) is_in (sym asks ∙ f)) ∙ on
 
@@ -113,36 +124,65 @@ module _ (m q : List ℕ) (n p : ℕ) (w : Walking m q n p) (more : 0 < p) where
       walking_next f =
           walking_at m q n (p - 1) r w.long (omega (arith, w.within)) (sym (by_other m q w.long (p - 1) (sym asks ∙ f)) ∙ on) before
 
-pub walking_all : (m q : List ℕ) (n p : ℕ) → Walking m q n p → p ≤ 0 → meant Nothing ≡ first_by m n q
+pub walking_all : (m q : List ℕ) (n p : ℕ) → Walking m q n p → p ≤ 0 → meant None ≡ first_by m n q
 unfolding meant
 walking_all m q n p w h = let e : p ≡ 0 = omega arith in sym (first_none m (question_in q)) ∙ rw e at w.left
+
+-- `==` on slices is the definitions' comparison of two lists
+same_is : (l q : List ℕ) → pointwise nat_eq l q ≡ same_list l q
+unfolding same_list
+same_is [] [] = refl
+same_is [] (y ∷ q) = refl
+same_is (x ∷ l) [] = refl
+same_is (x ∷ l) (y ∷ q) = rw (same_is l q)
+
+pub same_by : (l q : List ℕ) (b : Bool) → b ≡ pointwise nat_eq l q → b ≡ same_list l q
+same_by l q b e = e ∙ same_is l q
 
 -- ── `enter` ──
 pub entering : (x : List ℕ) (n h v : ℕ) → v ≡ n + 1 → set (set x (heads + n) (get_or x h 0)) h v ≡ entered x n h
 unfolding entered
 entering x n h v e = rw e
 
+-- ── the two parts of an index: the heads, and for each slot the one before it ──
+module _ (x a b : List ℕ) (whole : a ++ b ≡ x) (long : length a ≡ heads) where
+  pub head_of : (h : ℕ) → h < heads → get_or a h 0 ≡ get_or x h 0
+  head_of h k = rw (← whole) (sym (get_or_append_left a b 0 h (omega arith)))
+
+  pub before_of : (i : ℕ) → get_or b i 0 ≡ get_or x (heads + i) 0
+  before_of i = rw (← whole, ← long) (sym (get_or-append-add a b i 0))
+
+  pub entering_parts : (n h : ℕ) → h < heads → set a h (n + 1) ++ set b n (get_or a h 0) ≡ entered x n h
+  entering_parts n h k =
+      let e : heads + n - heads ≡ n = omega arith in
+      let p : set (a ++ b) (heads + n) (get_or a h 0) ≡ a ++ set b n (get_or a h 0)
+      = set-append_right a b heads (heads + n) (get_or a h 0) long (omega arith) ∙ rw e in
+      sym (set-append_left a (set b n (get_or a h 0)) h (n + 1) (omega arith)) ∙ rw (← p, whole, head_of h k) (entering x n h (n + 1) refl)
+
 -- ── `add`: one slot more in the index ──
-module _ (x m q : List ℕ) (n h : ℕ) (r : Found) (g : Indexed x m n) (free : n < slots_lent m)
+module _ (x m q : List ℕ) (n h : ℕ) (r : Answer ℕ) (g : Indexed x m n) (free : n < slots_lent m)
     (asks : q ≡ slot_question m n) (found : meant r ≡ first_by m n q) where
-  pub added_left : (k : ℕ) → r ≡ At k → Indexed x m (n + 1)
+  pub added_left : (k : ℕ) → r ≡ Some k → Indexed x m (n + 1)
   unfolding meant
   added_left k d = indexed_left x m n g free k (rw asks at (sym found ∙ ap meant d))
 
-  pub added_new : (x' : List ℕ) → r ≡ Nothing → h ≡ hash_of q → x' ≡ entered x n h → Indexed x' m (n + 1)
+  pub added_new : (x' : List ℕ) → r ≡ None → h ≡ hash_of q → x' ≡ entered x n h → Indexed x' m (n + 1)
   unfolding meant
   added_new x' d e t = indexed_enter x m n g free h x' (e ∙ ap hash_of asks) (rw asks at (sym found ∙ ap meant d)) t
 
--- ── `index_all` ──
-pub record Indexing (x m : List ℕ) (n i : ℕ) : Type 0 where
-  pub within : i ≤ n
-  pub done : Indexed x m i
+  pub added_seen : is_some r ≡ true → Indexed x m (n + 1)
+  added_seen = go r refl
+    where
+      go : (o : Answer ℕ) → r ≡ o → is_some o ≡ true → Indexed x m (n + 1)
+      go (Some k) d e = added_left k d
+      go None d e = absurd (false≢true e)
 
-pub indexing_none : (x m l : List ℕ) (n : ℕ) → x ≡ replicate (length l) 0 → length l ≡ index_room → Indexing x m n 0
-indexing_none x m l n e h = record { within = omega arith; done = indexed_none x m l e h }
-
-pub indexing_all : (x m : List ℕ) (n i : ℕ) → Indexing x m n i → n ≤ i → Indexed x m n
-indexing_all x m n i g h = let e : i ≡ n = omega arith in rw e at g.done
+  pub added_unseen : (x' : List ℕ) → is_some r ≡ false → h ≡ hash_of q → x' ≡ entered x n h → Indexed x' m (n + 1)
+  added_unseen x' = go r refl
+    where
+      go : (o : Answer ℕ) → r ≡ o → is_some o ≡ false → h ≡ hash_of q → x' ≡ entered x n h → Indexed x' m (n + 1)
+      go (Some k) d e = absurd (true≢false e)
+      go None d e = added_new x' d
 
 -- ── `keep`: the slots before it ask what they asked, and it asks the question ──
 module _ (m q l : List ℕ) (n : ℕ) (long_q : length q ≡ question_width) (long_l : length l ≡ set_width) (free : n < slots_lent m) where

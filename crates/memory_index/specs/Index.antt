@@ -1,21 +1,19 @@
 -- The index over the filled slots, 12,288 numbers: 8,192 heads by a hash of the question, and then for each slot the one before it in its chain.
 -- Only the first slot that asks a question is entered, so the first hit of a chain is the first slot of all that asks it.
-use Rattle.std.specs.Prelude.{◌≡◌, Bool, true, false, List, ℕ, zero, suc, ◌+◌, ◌*◌, ◌≤◌, length, get_or, set, replicate}
+use Rattle.std.specs.Prelude.{◌≡◌, Option as Answer, None, Some, Bool, true, false, List, ℕ, zero, suc, ◌+◌, ◌*◌, ◌≤◌, length, get_or, set, replicate}
 use Rattle.std.proofs.Math.Option.{Option, none, some}
 use Rattle.lists.specs.Choice.{pick}
 use Rattle.rules.specs.Memory.{slot_width, most_slots, question_in, slot_question, first_slot}
 use Rattle.memory_hash.specs.Hash.{heads, hash_of}
-use Rattle.memory_index.specs.declared.Found.{Found}
-use Rattle.memory_index.specs.declared.Found.TheVariants.{At, Nothing}
 
 -- its length: the heads, and then a number a slot
 abbrev pub index_room : ℕ
 index_room = heads + most_slots
 
 -- what an answer of `find` means
-unfoldable pub meant : Found → Option ℕ
-meant (At i) = some i
-meant Nothing = none
+unfoldable pub meant : Answer ℕ → Option ℕ
+meant (Some i) = some i
+meant None = none
 
 -- the first of n slots that asks nine numbers
 abbrev pub first_by : List ℕ → ℕ → List ℕ → Option ℕ

@@ -1,22 +1,27 @@
 -- The laws that the public call is proved by: one for each way through it.
-use Rattle.std.specs.Prelude.{◌≡◌, refl, take}
+use Rattle.std.specs.Prelude.{◌≡◌, refl, Result, Ok, Err}
+use Rattle.std.specs.Result.{IsErrAnd}
 use Rattle.std.proofs.Math.Path.{sym, ap}
 use Rattle.std.proofs.Common.{◌∙◌, arith, eqb-true, eq-eqb, ne_eqb, ltb-false, leb-false}
 use mathlib.Core.List.{List}
-use Prim.Native.Nat.{ℕ, zero, suc, ◌-◌}
+use Prim.Native.Nat.{ℕ, zero, suc}
 use Rattle.lists.specs.Choice.Laws.{pick_true, pick_false, neither, not_not}
 use Rattle.lists.specs.Checks.Laws.{first_zero}
+use Rattle.refusals.specs.declared.Refusal.{Refusal}
+use Rattle.refusals.specs.Numbers.{number_of}
+use Rattle.refusals.specs.Laws.{number_positive}
 use Rattle.rules.specs.Book.{book_refusal, states_of}
 use Rattle.rules.specs.Sets.{Question}
 use Rattle.rules.specs.Memory.{question_in}
 use Rattle.rules.specs.Pass.{Carried, ask_next}
 use Rattle.rules.specs.Calls.{QuestionLent, question_refusal, answer_question}
-use Rattle.book_plan.specs.Plan.{Planned, states_in, PlanOf}
-use Rattle.book_plan.proofs.Plan.{plan_lent}
+use Rattle.book_plan.specs.declared.State.{State}
+use Rattle.book_plan.specs.Plan.{states_in, PlanOf}
 use Rattle.memory_ask.specs.declared.Counts.{Counts}
 use Rattle.memory_ask.specs.Ask.{carried_in, replied}
 use Rattle.memory_refusals.specs.Laws.{refused_book, past_book}
-use Rattle.memory_question.specs.Question.{question_returned, Answerable}
+use Rattle.memory_question.specs.declared.Kept.{Kept}
+use Rattle.memory_question.specs.Question.{answered_of, question_returned, Answerable}
 
 -- ── `answer_question` ──
 -- the counts that a question alone starts from
@@ -44,7 +49,7 @@ module _ (book w room m : List ℕ) (a f n : ℕ) (checked : n ≡ question_refu
       ap (λ (x : List ℕ × Carried). record { refusal = 0; reply = record { answer = x.0; kept = x.1.kept } }) e
       ∙ sym (pick_true _ _ _ (eq-eqb _ _ (sym checked ∙ z)))
 
-  pub answerable : n ≡ 0 → Answerable book m (counted a f) w room
+  pub answerable : n ≡ 0 → Answerable m (counted a f) w room
   answerable z =
       let fine : book_refusal book ≡ 0 = book_passes (book_refusal book) refl in
       let one = first_zero 18 _ _ (omega arith) (sym (past_book lent_now (book_refusal book) refl fine) ∙ sym checked ∙ z) in
@@ -52,7 +57,6 @@ module _ (book w room m : List ℕ) (a f n : ℕ) (checked : n ≡ question_refu
       let three = first_zero 19 _ _ (omega arith) two.1 in
       let sizes = neither _ _ one.0 in
       record {
-        accepted = fine;
         question = eqb-true _ _ (not_not _ sizes.0);
         room = eqb-true _ _ (not_not _ sizes.1);
         lent = ltb-false _ _ two.0;
@@ -64,13 +68,13 @@ module _ (book w room m : List ℕ) (a f n : ℕ) (checked : n ≡ question_refu
       book_passes zero d = d
       book_passes (suc k) d = refused_book lent_now (book_refusal book) refl (λ e. omega arith) ∙ sym checked ∙ z
 
--- ── `ask_alone`: the numbers of the room that are the plan are lent on, and its states are the book's ──
-module _ (book p : List ℕ) (n : ℕ) (made : PlanOf (take n p) book) where
-  whole : PlanOf (take (n - 0) p) book
-  whole = plan_lent p book n made
+-- a refusal handed on by `?`
+pub refuses_on : (book w room m : List ℕ) (a f : ℕ) (r : Result Kept Refusal) (e : Refusal) → number_of e ≡ question_refusal (lent_so book w room m a f)
+    → IsErrAnd r (λ x. x ≡ e) → question_returned (answered_of r) m room ≡ answer_question (lent_so book w room m a f)
+refuses_on book w room m a f (Ok k) e g h = absurd h
+refuses_on book w room m a f (Err x) e g h = rw h (refuses book w room m a f (number_of e) g (λ z. omega (arith, number_positive e)))
 
-  pub planned_lent : Planned (take (n - 0) p)
-  planned_lent = whole.planned
-
-  pub asks_book : (q : Question) (c : Carried) (r : List ℕ × Carried) → r ≡ ask_next (states_in (take (n - 0) p)) q c → r ≡ ask_next (states_of book) q c
-  asks_book q c r e = rw (← whole.states) e
+-- ── `ask_alone`: the plan's states are the book's ──
+pub asks_book : (book : List ℕ) (p : List State) (q : Question) (c : Carried) (r : List ℕ × Carried) → PlanOf p book → r ≡ ask_next (states_in p) q c
+    → r ≡ ask_next (states_of book) q c
+asks_book book p q c r made e = rw (← made.states) e

@@ -1,5 +1,4 @@
-// The inner call as a public call: any book, memory and counts are taken, and what cannot be answered is refused by a
-// number.
+// The inner call as a public call: any book, memory and counts are taken, and what cannot be answered is refused.
 // It makes the plan of the book and the index of the filled slots, and calls the very function that the run calls,
 // `memory_ask::ask`.
 // Its promise: rules/specs/Promise.antt, QuestionPromise; its definition: Calls.antt there.
@@ -12,31 +11,67 @@ ghost use Rattle.rules.specs.Pass.{ask_next};
 ghost use Rattle.rules.specs.Promise.{QuestionPromise};
 ghost use Rattle.memory_ask.specs.Ask.{carried_in, replied};
 ghost use Rattle.memory_refusals.specs.Question.{question_lent};
-ghost use Rattle.memory_question.specs.Question.{question_returned, Answerable};
+ghost use Rattle.memory_question.specs.Question.{answered_of, question_returned, Answerable};
 
+use book_check::Book;
 use memory_ask::Counts;
+use refusals::Refusal;
 
-// The refusal, and the counts for the next question; zero counts where the question is refused.
+// The counts for the next question.
+#[derive(Clone, Copy, Debug, PartialEq, Eq)]
+pub struct Kept {
+    pub anew: u64,
+    pub filled: usize,
+}
+
+// What the call gives, as other languages have it: the refusal's number, 0 where nothing is refused, and the counts,
+// zero where the question is refused.
 #[repr(C)]
-#[derive(Clone, Copy)]
+#[derive(Clone, Copy, Debug, PartialEq, Eq)]
 pub struct Answered {
     pub refusal: u64,
     pub anew: u64,
     pub filled: usize,
 }
 
+impl From<Result<Kept, Refusal>> for Answered {
+    ghost from_gives = { λ r a. a ≡ answered_of r };
+
+    fn from(given: Result<Kept, Refusal>) -> Answered {
+        match given {
+            Ok(kept) => Answered {
+                refusal: 0,
+                anew: kept.anew,
+                filled: kept.filled,
+            },
+            Err(e) => Answered {
+                refusal: u64::from(e),
+                anew: 0,
+                filled: 0,
+            },
+        }
+    }
+}
+
 // A question to an accepted book.
-fn ask_alone(book: &[u8], memory: &mut [u64], c: Counts, q: &[u64], answer: &mut [u64]) -> Counts
-    requires { Answerable book.now memory.old c q.now answer.old }
+#[tactic(auto, using(crate::specs::Laws::asks_book))]
+fn ask_alone(
+    book: &Book<'_>,
+    memory: &mut [u64],
+    c: Counts,
+    q: &[u64],
+    answer: &mut [u64],
+) -> Counts
+    requires { Answerable memory.old c q.now answer.old }
     ensures { replied answer.new memory.new result
         ≡ ask_next (states_of book.now) (question_in q.now) (carried_in memory.old c) }
 {
-    let mut plan = [0u64; book_plan::ROOM];
-    let long = book_planner::make(book, &mut plan);
-    let mut index = [0u16; memory_index::ROOM];
-    let filled = c.filled;
-    memory_index::index_all(&mut index, memory, filled);
-    memory_ask::ask(&plan[0..long], &mut index, memory, c, q, answer)
+    // As a pass alone makes them: handed back by a function of both, they would be copied.
+    let mut plan = book_plan::EMPTY;
+    book_planner::make(book, &mut plan);
+    let mut index = memory_index::EMPTY;
+    index.index_all(memory, c.filled);
+    memory_ask::ask(&plan, &mut index, memory, c, q, answer)
 }
 
 pub fn answer_question(
@@ -46,27 +81,19 @@ pub fn answer_question(
     anew: u64,
     q: &[u64],
     answer: &mut [u64],
-) -> Answered
+) -> Result<Kept, Refusal>
     ensures { QuestionPromise (question_lent book.now memory.old filled anew q.now answer.old)
-        (question_returned result memory.new answer.new) }
+        (question_returned (answered_of result) memory.new answer.new) }
 {
     let c = Counts {
         asked: 0,
-        anew: anew,
-        filled: filled,
+        anew,
+        filled,
     };
-    let no = memory_refusals::refusal_of(book, memory, c, q, answer);
-    if no != 0 {
-        return Answered {
-            refusal: no,
-            anew: 0,
-            filled: 0,
-        };
-    }
-    let next = ask_alone(book, memory, c, q, answer);
-    Answered {
-        refusal: 0,
+    let book = memory_refusals::refusal_of(book, memory, c, q, answer)?;
+    let next = ask_alone(&book, memory, c, q, answer);
+    Ok(Kept {
         anew: next.anew,
         filled: next.filled,
-    }
+    })
 }

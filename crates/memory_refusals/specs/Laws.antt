@@ -1,12 +1,16 @@
 -- A law for each way out of the refusals of a question.
-use Rattle.std.specs.Prelude.{◌≡◌, true, false, ◌||◌, not, [], ◌∷◌, ℕ, ◌≤◌, ◌<◌, eqb, leb, length}
-use Rattle.std.proofs.Math.Path.{refl}
-use Rattle.std.proofs.Common.{sym, ◌∙◌, eq-eqb, ne_eqb, lt-ltb, le-ltb, le-leb}
+use Rattle.std.specs.Prelude.{◌≡◌, Result, Ok, Err, true, false, ◌||◌, not, [], ◌∷◌, ℕ, ◌≤◌, ◌<◌, eqb, leb, length}
+use Rattle.std.specs.Result.{IsErrAnd}
+use Rattle.std.proofs.Math.Path.{refl, ap}
+use Rattle.std.proofs.Common.{arith, sym, ◌∙◌, eq-eqb, ne_eqb, lt-ltb, le-ltb, le-leb}
 use Rattle.std.proofs.lemmas.Bool.{lt-leb}
 use Rattle.lists.specs.Choice.{pick}
 use Rattle.lists.specs.Checks.{first_of}
 use Rattle.lists.specs.Choice.Laws.{pick_true, pick_false}
 use Rattle.lists.specs.Checks.Laws.{first_fails, first_passes, first_end, first_join}
+use Rattle.refusals.specs.declared.Refusal.{Refusal}
+use Rattle.refusals.specs.Numbers.{number_of, refused}
+use Rattle.refusals.specs.Laws.{number_positive}
 use Rattle.rules.specs.Book.{book_checks, book_refusal}
 use Rattle.rules.specs.Sets.{set_width}
 use Rattle.rules.specs.Memory.{question_width, slots_lent}
@@ -41,3 +45,10 @@ module _ (l : QuestionLent) where
 
           pub accepts : l.kept.anew < count_limit → 0 ≡ question_refusal l
           accepts h = sym (past_filled ∙ first_passes _ _ _ (lt-leb _ _ h) ∙ first_end)
+
+  -- the book's refusal handed on by `?`
+  pub refused_on : {A : Type 0} (r : Result A Refusal) (e : Refusal) → number_of e ≡ book_refusal l.book → IsErrAnd r (λ x. x ≡ e) → refused r ≡ question_refusal l
+  refused_on (Ok x) e g h = absurd h
+  refused_on (Err x) e g h = ap number_of h ∙ refused_book (number_of e) g (λ z. omega (arith, number_positive e))
+
+pub ruleset question_laws = (refused_question, refused_filled, refused_count, accepts)

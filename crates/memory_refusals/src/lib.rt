@@ -1,32 +1,41 @@
-// The refusals of a question: one number for all that the inner call is lent, 0 where nothing is refused. Its `pub` is
+// The refusals of a question: one for all that the inner call is lent, or else the accepted book. Its `pub` is
 // for sister crates only: `refusal_of` has no premise and is no public call either.
 // Definition: question_refusal of rules/specs/Calls.antt. Read next: memory_question, which refuses so.
 #![tactic(auto)]
 
-ghost use Rattle.std.specs.Prelude.{◌≡◌};
+ghost use Rattle.std.specs.Prelude.{◌≡◌, IfOk};
 ghost use Rattle.rules.specs.Calls.{question_refusal};
+ghost use Rattle.refusals.specs.Numbers.{refused};
 ghost use Rattle.memory_refusals.specs.Question.{question_lent};
 
+use book_check::Book;
 use memory_ask::Counts;
 use memory_slots::{ANSWER, QUESTION};
+use refusals::Refusal;
 
-// The book's refusals, then 18: a question or an answer's room of another length; then 14: more slots filled than lent;
-// then 19: a count of 2^63 or more.
-pub fn refusal_of(book: &[u8], memory: &[u64], c: Counts, q: &[u64], answer: &[u64]) -> u64
-    ensures { result ≡ question_refusal (question_lent book.now memory.now c.filled c.anew q.now answer.now) }
+// The book's refusals; then a question or an answer's room of another length; then more slots filled than lent; then a
+// count of 2^63 or more.
+#[tactic(auto, using(crate::specs::Laws::question_laws))]
+pub fn refusal_of<'a>(
+    book: &'a [u8],
+    memory: &[u64],
+    c: Counts,
+    q: &[u64],
+    answer: &[u64],
+) -> Result<Book<'a>, Refusal>
+    ensures refusal { refused result
+        ≡ question_refusal (question_lent book.now memory.now c.filled c.anew q.now answer.now) }
+    ensures same { IfOk result (λ b. b ≡ book.now) }
 {
-    let no = book_check::check_book(book);
-    if no != 0 {
-        return no;
-    }
+    let book = book_check::accept(book)?;
     if (q.len() != QUESTION) | (answer.len() != ANSWER) {
-        return 18;
+        return Err(Refusal::QuestionShape);
     }
     if memory_slots::lent(memory) < c.filled {
-        return 14;
+        return Err(Refusal::OverFilled);
     }
     if memory_ask::LIMIT <= c.anew {
-        return 19;
+        return Err(Refusal::GreatCount);
     }
-    0
+    Ok(book)
 }

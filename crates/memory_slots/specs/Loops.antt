@@ -1,20 +1,10 @@
 -- The laws that the code of the slots is proved by: one for each way through it.
-use Rattle.std.specs.Prelude.{◌≡◌, List, [], ◌++◌, ℕ, ◌+◌, ◌-◌, ◌*◌, length, take, drop}
-use Rattle.std.proofs.Common.{◌∙◌, append-nil, arith, length-append, length-drop, drop_of_length-le, take_at}
+use Rattle.std.specs.Prelude.{◌≡◌, List, ◌++◌, ℕ, ◌+◌, ◌-◌, ◌*◌, length, take, drop}
+use Rattle.std.proofs.Common.{◌∙◌, arith, length-append}
 use Rattle.lists.specs.Parts.Laws.{part_lent, part_back}
 use Rattle.rules.specs.Sets.{set_width}
 use Rattle.rules.specs.Memory.{question_width, slot_width, slot_question, slot_answer}
 use Rattle.memory_slots.specs.Slots.{with_slot}
-
--- a slot's two parts written
-pub filled_slot : (was a b q ans : List ℕ) → a ≡ q → b ≡ ans → length q ≡ question_width
-    → let w : List ℕ = a ++ drop question_width was in
-    take question_width w ++ (b ++ drop (length w - question_width) (drop question_width w)) ≡ q ++ ans
-filled_slot was a b q ans ea eb h =
-    let w : List ℕ = q ++ drop question_width was in
-    let none : drop (length w - question_width) (drop question_width w) ≡ []
-    = drop_of_length-le (drop question_width w) {i = length w - question_width} (simp length-drop (omega arith)) in
-    rw (ea, eb, none, take_at q (drop question_width was) question_width h, append-nil)
 
 -- the slot put back into the memory
 pub kept_slot : (m l q ans : List ℕ) (i : ℕ) → l ≡ q ++ ans → length q ≡ question_width → length ans ≡ set_width

@@ -23,12 +23,12 @@ pub const SLOT: usize = QUESTION + ANSWER;
 // The most slots that may be filled.
 pub const SLOTS: usize = 4096;
 
-// The set of which a question is asked.
+// The set of which a question is asked. A question is a slice and no array: it is a part of what is lent.
 pub fn set_of(q: &[u64]) -> &[u64]
     requires { length q.now ≡ question_width }
     ensures { (result.now ≡ (question_in q.now).states) × (length result.now ≡ set_width) }
 {
-    &q[0..LABEL]
+    &q[..LABEL]
 }
 
 pub fn label_of(q: &[u64]) -> u64
@@ -39,14 +39,11 @@ pub fn label_of(q: &[u64]) -> u64
 }
 
 // The count of slots that may be filled.
+#[tactic(auto, using(crate::specs::Slots::lent_less, crate::specs::Slots::lent_most))]
 pub fn lent(memory: &[u64]) -> usize
     ensures { (result ≡ slots_lent memory.now) × (result ≤ most_slots) }
 {
-    let n = memory.len() / SLOT;
-    if n < SLOTS {
-        return n;
-    }
-    SLOTS
+    (memory.len() / SLOT).min(SLOTS)
 }
 
 fn fill(slot: &mut [u64], q: &[u64], answer: &[u64])
@@ -54,11 +51,14 @@ fn fill(slot: &mut [u64], q: &[u64], answer: &[u64])
     requires question_long { (length q.now ≡ question_width) × (length answer.now ≡ set_width) }
     ensures { slot.new ≡ q.now ++ answer.now }
 {
-    lists::copy(&mut slot[0..QUESTION], q);
-    lists::copy(&mut slot[QUESTION..], answer);
+    let (asks, holds) = slot.split_at_mut(QUESTION);
+    // Of a length that is fixed: the compiler then writes the copy out, and calls nothing for it.
+    asks.copy_from_slice(&q[..QUESTION]);
+    holds.copy_from_slice(&answer[..ANSWER]);
 }
 
 // The question and its answer in slot i.
+#[tactic(auto, using(crate::specs::Loops::kept_slot))]
 pub fn keep(memory: &mut [u64], i: usize, q: &[u64], answer: &[u64])
     requires has_slot { HasSlot memory.old i }
     requires question_long { (length q.now ≡ question_width) × (length answer.now ≡ set_width) }
@@ -69,6 +69,7 @@ pub fn keep(memory: &mut [u64], i: usize, q: &[u64], answer: &[u64])
 }
 
 // The question that slot i asks.
+#[tactic(auto, using(crate::specs::Loops::asked))]
 pub fn question(memory: &[u64], i: usize) -> &[u64]
     requires { HasSlot memory.now i }
     ensures { (result.now ≡ slot_question memory.now i) × (length result.now ≡ question_width) }
@@ -78,10 +79,11 @@ pub fn question(memory: &[u64], i: usize) -> &[u64]
 }
 
 // The answer in slot i.
+#[tactic(auto, using(crate::specs::Loops::recalled))]
 pub fn recall(memory: &[u64], i: usize, answer: &mut [u64])
     requires { HasSlot memory.now i × (length answer.old ≡ set_width) }
     ensures { answer.new ≡ slot_answer memory.now i }
 {
     let a = SLOT * i + QUESTION;
-    lists::copy(answer, &memory[a..a + ANSWER]);
+    answer.copy_from_slice(&memory[a..a + ANSWER]);
 }

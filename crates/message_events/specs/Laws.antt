@@ -10,10 +10,11 @@ use Rattle.lists.specs.Parts.{part}
 use Rattle.rules.specs.Bytes.{le2}
 use Rattle.rules.specs.Book.{Meaning}
 use Rattle.rules.specs.Message.{start_refusal, end_refusal}
+use Rattle.refusals.specs.Laws.{number_positive}
 use Rattle.message_levels.specs.Level.{label_in, stage_in}
-use Rattle.message_starts.specs.Starts.{child_opened}
+use Rattle.message_starts.specs.Starts.{child_opened, start_room}
 use Rattle.message_texts.specs.Texts.{held_by}
-use Rattle.message_ends.specs.Ends.{close_of}
+use Rattle.message_ends.specs.Ends.{close_of, end_inside}
 use Rattle.memory_ask.specs.declared.Counts.{Counts}
 use Rattle.memory_ask.specs.Ask.{carried_in}
 use Rattle.message_events.specs.declared.Reader.{Reader}
@@ -45,7 +46,7 @@ module _ (body ws : List ℕ) (s : Reader) where
     unfolding start_by
     start_next w z h = rw (h, there) (rw z at start_by_lem)
 
-pub ruleset start_laws = (start_short, start_refused, start_next)
+pub ruleset start_laws = (start_short, start_refused, start_next, start_room, number_positive)
 
 -- ── text ──
 module _ (body : List ℕ) (b : Meaning) (ws : List ℕ) (s : Reader) where
@@ -81,7 +82,7 @@ module _ (body : List ℕ) (b : Meaning) (ws : List ℕ) (s : Reader) where
           (goes_on (record { place = s.place + (k + 2); depth = s.depth; counts = s.counts }), w) ≡ text_for k body b ws s
       text_next z = rw z at text_held
 
-pub ruleset text_laws = (text_cut, text_refused, text_next)
+pub ruleset text_laws = (text_cut, text_refused, text_next, number_positive)
 
 -- ── end ──
 module _ (body : List ℕ) (b : Meaning) (ws m : List ℕ) (s : Reader) where
@@ -107,4 +108,4 @@ module _ (body : List ℕ) (b : Meaning) (ws m : List ℕ) (s : Reader) where
     unfolding end_by
     end_next r w v z g = ap (ended s) g ∙ rw z at end_by_lem
 
-pub ruleset end_laws = (end_short, end_refused, end_next)
+pub ruleset end_laws = (end_short, end_refused, end_next, end_inside, number_positive)

@@ -8,23 +8,22 @@ use Rattle.lists.specs.Checks.Laws.{first_fails, first_passes, first_end}
 use Rattle.rules.specs.Message.{place_of, last_refusal}
 use Rattle.message_levels.specs.Level.{stage_in}
 use Rattle.message_events.specs.declared.Reader.{Reader}
-use Rattle.message_finish.specs.declared.Ended.{Ended}
 
--- what a body of n bytes comes to with the refusal e
-abbrev pub ended_by : Reader → ℕ → ℕ → Ended
-ended_by s n e = record { refusal = e; place = place_of e n; counts = s.counts }
+-- what a body of n bytes comes to with the refusal e: the refusal and its place
+abbrev pub ended_by : ℕ → ℕ → ℕ × ℕ
+ended_by n e = (e, place_of e n)
 
-unfoldable pub finished : Reader → ℕ → List ℕ → Ended
-finished s n ws = ended_by s n (last_refusal s.depth (stage_in ws s.depth))
+unfoldable pub finished : Reader → ℕ → List ℕ → ℕ × ℕ
+finished s n ws = ended_by n (last_refusal s.depth (stage_in ws s.depth))
 
 module _ (s : Reader) (n : ℕ) (ws : List ℕ) (stage : ℕ) (is : stage ≡ stage_in ws s.depth) where
-  pub finish_read : eqb s.depth 0 && eqb stage 1 ≡ true → record { refusal = 0; place = 0; counts = s.counts } ≡ finished s n ws
+  pub finish_read : eqb s.depth 0 && eqb stage 1 ≡ true → (0, 0) ≡ finished s n ws
   unfolding finished last_refusal
-  finish_read e = ap (ended_by s n) (sym (first_passes 29 _ _ (ap not (rw is at e)) ∙ first_end))
+  finish_read e = ap (ended_by n) (sym (first_passes 29 _ _ (ap not (rw is at e)) ∙ first_end))
 
-  pub finish_open : eqb s.depth 0 && eqb stage 1 ≡ false → record { refusal = 29; place = n; counts = s.counts } ≡ finished s n ws
+  pub finish_open : eqb s.depth 0 && eqb stage 1 ≡ false → (29, n) ≡ finished s n ws
   unfolding finished last_refusal
-  finish_open e = ap (ended_by s n) (sym (first_fails 29 _ _ (ap not (rw is at e))))
+  finish_open e = ap (ended_by n) (sym (first_fails 29 _ _ (ap not (rw is at e))))
 
 pub ruleset finish_laws = (finish_read, finish_open)
 

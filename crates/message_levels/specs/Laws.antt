@@ -71,6 +71,9 @@ module _ (ws : List ℕ) (d : ℕ) (has : HasLevel ws d) where
   level_long : length (level_at ws d) ≡ level_width
   level_long = part_long ws (level_width * d) level_width (omega arith)
 
+  pub lent_long : length (lent ws d) ≡ level_width
+  lent_long = ap length (part_lent ws (level_width * d) level_width) ∙ level_long
+
   -- f is what the work makes of it
   level_back : (f : List ℕ → List ℕ) (l : List ℕ) → length (f (level_at ws d)) ≡ level_width → l ≡ f (lent ws d) → back ws d l ≡ with_level ws d (f (level_at ws d))
   level_back f l g e = part_back ws l (f (level_at ws d)) (level_width * d) level_width (e ∙ ap f (part_lent ws (level_width * d) level_width)) g

@@ -11,64 +11,65 @@ ghost use Rattle.memory_index.specs.Index.{Indexed};
 ghost use Rattle.message_levels.specs.Level.{HasLevel};
 ghost use Rattle.message_reading.specs.Outcomes.{CanRead, ReadFrom, ReadMessage};
 
+use book_plan::Plan;
 use memory_ask::Counts;
-use message_events::{Reader, Step};
-use message_finish::Ended;
+use memory_index::SlotIndex;
+use message_events::Reader;
+use refusals::Refused;
 
-// The events from the reader's place on.
+// What a message came to: read, or refused at a place; and the counts after it.
+#[derive(Clone, Copy, Debug, PartialEq, Eq)]
+pub struct Ended {
+    pub read: Result<(), Refused>,
+    pub counts: Counts,
+}
+
+// The events from the reader's place on. A refused event leaves the reader at its place.
 fn read_on(
-    from: Reader,
+    s: &mut Reader,
     body: &[u8],
-    plan: &[u64],
-    index: &mut [u16],
+    plan: &Plan,
+    index: &mut SlotIndex,
     memory: &mut [u64],
     workspace: &mut [u64],
-) -> Ended
-    requires can_read { CanRead plan.now index.old memory.old body.now from.counts }
-    requires place_inside { (from.place ≤ length body.now) × HasLevel workspace.old from.depth }
-    ensures read_from { ReadFrom body.now (meaning_in plan.now) workspace.old memory.old from
-        result workspace.new memory.new }
-    ensures indexed { Indexed index.new memory.new result.counts.filled }
+) -> Result<(), Refused>
+    requires can_read { CanRead index.old memory.old body.now s.old.counts }
+    requires place_inside { (s.old.place ≤ length body.now) × HasLevel workspace.old s.old.depth }
+    ensures read_from { ReadFrom body.now (meaning_in plan.now) workspace.old memory.old s.old
+        (record { read = result; counts = s.new.counts }) workspace.new memory.new }
+    ensures indexed { Indexed index.new memory.new s.new.counts.filled }
 {
-    let mut s = from;
+    // Events of any size, as many as the body has: no count, a while.
     while s.place < body.len() {
-        match message_step::step(s, body, plan, index, memory, workspace) {
-            Step::Next(t) => {
-                s = t;
-            }
-            Step::Refused(e, p) => {
-                let counts = s.counts;
-                return Ended {
-                    refusal: e,
-                    place: p,
-                    counts: counts,
-                };
-            }
-        }
+        *s = message_step::step(*s, body, plan, index, memory, workspace)?;
     }
-    message_finish::finish(s, body, workspace)
+    message_finish::finish(*s, body, workspace)
 }
 
 // A message, from the root's level on.
 pub fn read(
     body: &[u8],
-    plan: &[u64],
-    index: &mut [u16],
+    plan: &Plan,
+    index: &mut SlotIndex,
     memory: &mut [u64],
     workspace: &mut [u64],
     counts: Counts,
 ) -> Ended
-    requires can_read { CanRead plan.now index.old memory.old body.now counts }
+    requires can_read { CanRead index.old memory.old body.now counts }
     requires levels_lent { workspace_width ≤ length workspace.old }
     ensures read_message { ReadMessage body.now (meaning_in plan.now) workspace.old memory.old counts
         result workspace.new memory.new }
     ensures indexed { Indexed index.new memory.new result.counts.filled }
 {
     message_levels::open_at(workspace, 0, 0);
-    let from = Reader {
+    let mut s = Reader {
         place: 0,
         depth: 0,
-        counts: counts,
+        counts,
     };
-    read_on(from, body, plan, index, memory, workspace)
+    let read = read_on(&mut s, body, plan, index, memory, workspace);
+    Ended {
+        read,
+        counts: s.counts,
+    }
 }

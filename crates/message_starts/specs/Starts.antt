@@ -56,6 +56,8 @@ stage_attribute x stage h = rw (lt-ltb any_attribute x h)
 pub stage_element : (x stage : ℕ) → x ≤ any_attribute → 1 ≡ stage_after (attribute x) stage
 stage_element x stage h = rw (le-ltb any_attribute x h)
 
+pub ruleset stage_laws = (stage_attribute, stage_element)
+
 -- what opening a child's level makes of the workspace
 pub opened_child : (ws w v : List ℕ) (d stage x t : ℕ) → t ≡ stage_after (attribute x) stage → w ≡ staged_at ws d t → v ≡ opened_at w (d + 1) x → v ≡ child_opened ws d stage x
 unfolding child_opened

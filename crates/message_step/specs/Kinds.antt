@@ -1,7 +1,7 @@
 -- What one event does to the reader's state, the workspace and the memory, by its kind byte, and a law for each way
 -- out of the code.
-use Rattle.std.specs.Prelude.{◌≡◌, ℕ, zero, suc, ◌+◌, eqb, get_or}
-use Rattle.std.proofs.Common.{sym, ◌∙◌, ap}
+use Rattle.std.specs.Prelude.{◌≡◌, ℕ, zero, suc, ◌+◌, ◌<◌, eqb, get_or}
+use Rattle.std.proofs.Common.{sym, ◌∙◌, ap, arith}
 use mathlib.Core.List.{List}
 use borrow.Author.Tests.{eq-eqb, ne_eqb}
 use Rattle.lists.specs.Choice.{pick}
@@ -50,24 +50,25 @@ text_fills body b ws s x m i =
     go k zero = i
     go k (suc n) = i
 
+is_not : {k : ℕ} (i j : ℕ) → k ≡ j → i < j → k ≡ i → ⊥
+is_not i j e h f = omega arith
+
 module _ (body : List ℕ) (b : Meaning) (ws m : List ℕ) (s : Reader) (kind : ℕ) (read : kind ≡ get_or body s.place 0) where
   pub step_start : (r : Stepped) (w : List ℕ) → kind ≡ 1 → (r, w) ≡ start_of body ws s → (r, w, m) ≡ step_of body b ws m s
   unfolding step_of pick
   step_start r w e g = simp (eq-eqb _ _ (sym read ∙ e)) (ap (λ (y : Stepped × List ℕ). beside y m) g)
 
-  module _ (one : kind ≡ 1 → ⊥) where
-    pub step_text : (r : Stepped) (w : List ℕ) → kind ≡ 2 → (r, w) ≡ text_of body b ws s → (r, w, m) ≡ step_of body b ws m s
-    unfolding step_of pick
-    step_text r w e g = simp (ne_eqb _ _ (rw read at one), eq-eqb _ _ (sym read ∙ e)) (ap (λ (y : Stepped × List ℕ). beside y m) g)
+  pub step_text : (r : Stepped) (w : List ℕ) → kind ≡ 2 → (r, w) ≡ text_of body b ws s → (r, w, m) ≡ step_of body b ws m s
+  unfolding step_of pick
+  step_text r w e g = simp (ne_eqb _ _ (is_not 1 2 (sym read ∙ e) (omega arith)), eq-eqb _ _ (sym read ∙ e)) (ap (λ (y : Stepped × List ℕ). beside y m) g)
 
-    module _ (two : kind ≡ 2 → ⊥) where
-      pub step_end : (r : Stepped) (w v : List ℕ) → kind ≡ 3 → (r, w, v) ≡ end_of body b ws m s → (r, w, v) ≡ step_of body b ws m s
-      unfolding step_of pick
-      step_end r w v e g = simp (ne_eqb _ _ (rw read at one), ne_eqb _ _ (rw read at two), eq-eqb _ _ (sym read ∙ e)) g
+  pub step_end : (r : Stepped) (w v : List ℕ) → kind ≡ 3 → (r, w, v) ≡ end_of body b ws m s → (r, w, v) ≡ step_of body b ws m s
+  unfolding step_of pick
+  step_end r w v e g = simp (ne_eqb _ _ (is_not 1 3 (sym read ∙ e) (omega arith)), ne_eqb _ _ (is_not 2 3 (sym read ∙ e) (omega arith)), eq-eqb _ _ (sym read ∙ e)) g
 
-      pub step_none : (kind ≡ 3 → ⊥) → (refused_at 21 s.place, ws, m) ≡ step_of body b ws m s
-      unfolding step_of pick
-      step_none e = simp (ne_eqb _ _ (rw read at one), ne_eqb _ _ (rw read at two), ne_eqb _ _ (rw read at e))
+  pub step_none : (kind ≡ 1 → ⊥) → (kind ≡ 2 → ⊥) → (kind ≡ 3 → ⊥) → (refused_at 21 s.place, ws, m) ≡ step_of body b ws m s
+  unfolding step_of pick
+  step_none one two e = simp (ne_eqb _ _ (rw read at one), ne_eqb _ _ (rw read at two), ne_eqb _ _ (rw read at e))
 
 pub start_indexed : (body ws : List ℕ) (s : Reader) (x m : List ℕ) (r : Stepped) (w : List ℕ) → (r, w) ≡ start_of body ws s → Indexed x m s.counts.filled → IndexedNext x m s.counts.filled r
 start_indexed body ws s x m r w e i = let d : (start_of body ws s).0 ≡ r = ap (λ (y : Stepped × List ℕ). y.0) (sym e) in rw d at (start_fills body ws s x m i)

@@ -5,26 +5,29 @@
 #![tactic(auto)]
 
 ghost use Rattle.std.specs.Prelude.{◌≡◌};
-ghost use Rattle.book_plan.specs.Plan.{Planned, meaning_in};
+ghost use Rattle.refusals.specs.Numbers.{refused};
+ghost use Rattle.book_plan.specs.Plan.{meaning_in};
 ghost use Rattle.message_levels.specs.Level.{HasLevel};
 ghost use Rattle.message_texts.specs.Texts.{held_by};
 
+use book_plan::Plan;
 use number_text::Value;
+use refusals::Refusal;
 
-// 26 and 27, in that order, and nothing is changed; or 0, and the text's LEAF states are joined to its level.
-pub fn hold(workspace: &mut [u64], d: usize, plan: &[u64], text: &[u8]) -> u64
-    requires { HasLevel workspace.old d × Planned plan.now }
-    ensures { (result, workspace.new) ≡ held_by (meaning_in plan.now) text.now workspace.old d }
+// 26 and 27, in that order, and nothing is changed; or the text's LEAF states are joined to its level.
+pub fn hold(workspace: &mut [u64], d: usize, plan: &Plan, text: &[u8]) -> Result<(), Refusal>
+    requires { HasLevel workspace.old d }
+    ensures { (refused result, workspace.new) ≡ held_by (meaning_in plan.now) text.now workspace.old d }
 {
-    if (d == 0) | !(message_levels::stage_of(workspace, d) == 0) {
-        return 26;
+    if d == 0 || message_levels::stage_of(workspace, d) != message_levels::NOTHING_CAME {
+        return Err(Refusal::TextAstray);
     }
     match number_text::text_value(text) {
-        Value::OutOfRange => 27,
+        Value::OutOfRange => Err(Refusal::OutOfRange),
         value => {
             message_levels::leaves_at(workspace, d, plan, value);
-            message_levels::stage_at(workspace, d, 2);
-            0
+            message_levels::stage_at(workspace, d, message_levels::TEXT_CAME);
+            Ok(())
         }
     }
 }

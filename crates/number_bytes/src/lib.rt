@@ -13,32 +13,25 @@ const COUNT: usize = 2;
 // The bytes of an entry.
 const ENTRY: usize = 8;
 
-// For the proof's sake: a byte that is read and widened in one expression asks for a fact more.
-fn wide(x: u8) -> u64
-    ensures { (result ≡ x) × (result < 256) }
-{
-    x as u64
-}
-
 pub fn byte(s: &[u8], i: usize) -> u64
     requires { i < length s.now }
     ensures { (result ≡ get_or s.now i 0) × (result < 256) }
 {
-    wide(s[i])
+    u64::from(s[i])
 }
 
 pub fn read2(s: &[u8], i: usize) -> u64
     requires { i + 2 ≤ length s.now }
     ensures { (result ≡ le2 s.now i) × (result < 65536) }
 {
-    wide(s[i]) + wide(s[i + 1]) * 256
+    u64::from(u16::from_le_bytes([s[i], s[i + 1]]))
 }
 
 pub fn read4(s: &[u8], i: usize) -> u64
     requires { i + 4 ≤ length s.now }
     ensures { (result ≡ le4 s.now i) × (result < 2 ^ 32) }
 {
-    wide(s[i]) + wide(s[i + 1]) * 256 + wide(s[i + 2]) * 65536 + wide(s[i + 3]) * 16777216
+    u64::from(u32::from_le_bytes([s[i], s[i + 1], s[i + 2], s[i + 3]]))
 }
 
 // Where entry k stands; after the last entry, where the contents end.
@@ -49,15 +42,12 @@ pub fn entry_at(k: usize) -> usize
     COUNT + ENTRY * k
 }
 
-// The lower half counts up from 0; in the upper half `!` gives the negative numbers with no sum that could overflow.
-#[tactic(auto, using(crate::proofs::Sign::small_signed, crate::proofs::Sign::large_signed))]
+// 32 bits read as a signed number.
+#[tactic(auto, using(crate::proofs::Sign::cast_is))]
 pub fn signed(u: u64) -> i32
     requires { u < 2 ^ 32 }
     ensures { result ≡ signed4 u }
 {
-    if u < 2147483648 {
-        u as i32
-    } else {
-        !((4294967295 - u) as i32)
-    }
+    // A u64 has no From into u32: as.
+    (u as u32).cast_signed()
 }

@@ -1,6 +1,6 @@
 -- The value of a text, read from its bytes in place: a law for each way out.
-use Rattle.std.specs.Prelude.{ℕ, suc, ◌+◌, ◌*◌, ◌-◌, ◌^◌, ◌<◌, ◌≤◌, ◌≡◌, Bool, not, length, get_or, take, drop, ℤ, pos, neg_ℤ}
-use Rattle.std.proofs.Common.{le_refl, arith, add-one, ap, ◌∙◌, length-drop, length-take, drop-cons, take-suc, take_all, to_z, of_z}
+use Rattle.std.specs.Prelude.{ℕ, zero, suc, ◌+◌, ◌*◌, ◌-◌, ◌^◌, ◌<◌, ◌≤◌, ◌≡◌, Bool, not, length, get_or, take, drop, ℤ, pos, neg_ℤ, ◌-ℤ◌}
+use Rattle.std.proofs.Common.{le_refl, subst, arith, add-one, ap, ◌∙◌, length-drop, drop-cons, take-suc, take_all, to_z, of_z}
 use Rattle.std.proofs.Math.Decide.{dec_le}
 use Rattle.std.proofs.Math.Path.{refl, sym}
 use mathlib.Core.List.{List, [], ◌∷◌, ◌++◌}
@@ -8,12 +8,14 @@ use Rattle.std.proofs.Math.Bool.{true, false}
 use Rattle.std.proofs.Math.ListN.{drop_of_length-le}
 use Rattle.std.proofs.Math.Seq.{take-length}
 use Rattle.std.specs.Int.Signed.{mag}
-use Rattle.std.specs.Int.{w32}
-use mir.ValLaws.{to_z-of_z, to_z-neg}
+use Rattle.std.specs.Int.{w32, w64}
+use mir.Val.{SFits}
+use mir.ValLaws.{to_z-of_z}
+use Rattle.std.proofs.lemmas.Int.{ints}
 use borrow.Author.Tests.{le-leb, lt-leb, eq-eqb, ne_eqb, not-true, not-false}
 use Rattle.lists.specs.Choice.{pick}
 use Rattle.rules.specs.Value.{Value, number, no_number, out_of_range, is_space, is_digit, strip_start, strip_before, strip_end}
-use Rattle.rules.specs.Value.{lowest, highest, in_range, digits_from, some_digits, whole_number, text_value}
+use Rattle.rules.specs.Value.{lowest, highest, in_range, digits_from, some_digits, whole_number}
 
 -- want is what a cut at r leaves, and r is within the text
 pub record Cut (want left : List ℕ) (r size : ℕ) : Type 0 where
@@ -30,18 +32,16 @@ pub record Next (n x r : ℕ) : Type 0 where
 pub back32 : (z : ℤ) → mag z < 2 ^ 31 → to_z w32 (of_z w32 z) ≡ z
 back32 z h = to_z-of_z w32 z (record { sfits = h })
 
--- ── negated, in range ──
-pub negated_zero : (n : ℕ) → n ≡ 0 → pos 0 ≡ neg_ℤ (pos n)
-negated_zero n e = rw e
+-- ── n with its sign, in range ──
+pub signed_minus : (m : Bool) (n : ℕ) → m ≡ true → n < 2 ^ 63 → to_z w64 (of_z w64 (pos 0 -ℤ to_z w64 n)) ≡ pick m (neg_ℤ (pos n)) (pos n)
+unfolding pick
+signed_minus m n e h = rw e (omega (arith, ints))
 
--- what the code's `!((n - 1) as i32)` holds
-pub negated_more : (n : ℕ) → (n ≡ 0 → ⊥) → n ≤ lowest → to_z w32 (4294967295 - (n - 1)) ≡ neg_ℤ (pos n)
-negated_more n h l =
-    let e : 4294967295 - (n - 1) ≡ 4294967296 - suc (n - 1) = omega arith in
-    let k : n ≡ suc (n - 1) = omega arith in
-    rw e (to_z-neg w32 (n - 1) (omega arith)) ∙ ap (λ m. neg_ℤ (pos m)) (sym k)
+pub signed_plain : (m : Bool) (n : ℕ) → m ≡ false → n < 2 ^ 63 → to_z w64 n ≡ pick m (neg_ℤ (pos n)) (pos n)
+unfolding pick
+signed_plain m n e h = rw e (omega (arith, ints))
 
-pub ruleset negated_laws = (negated_zero, negated_more)
+pub ruleset signed_laws = (signed_minus, signed_plain)
 
 pub range_below : (m : Bool) (n : ℕ) (z : ℤ) → m ≡ true → n ≤ lowest → z ≡ neg_ℤ (pos n) → number z ≡ in_range m n
 unfolding pick
@@ -59,7 +59,50 @@ pub range_too_high : (m : Bool) (n : ℕ) → m ≡ false → highest < n → ou
 unfolding pick
 range_too_high m n e h = rw (e, lt-leb n highest h)
 
-pub ruleset range_laws = (range_too_low, range_too_high)
+-- the numbers that are an i32
+minus_fits : (n : ℕ) → n ≤ lowest → SFits w32 (neg_ℤ (pos n))
+minus_fits zero h = record { sfits = omega arith }
+minus_fits (suc n) h = record { sfits = omega arith }
+
+fits_minus : (n : ℕ) → SFits w32 (neg_ℤ (pos n)) → n ≤ lowest
+fits_minus zero f = omega arith
+fits_minus (suc n) f = let h = f.sfits in omega arith
+
+module _ (n : ℕ) (z : ℤ) where
+  range_some : (m : Bool) → z ≡ pick m (neg_ℤ (pos n)) (pos n) → SFits w32 z → number z ≡ in_range m n
+  unfolding pick
+  range_some true e f = range_below true n z refl (fits_minus n (subst (SFits w32) e f)) e
+  range_some false e f = let h = (subst (SFits w32) e f).sfits in range_above false n z refl (omega arith) e
+
+  range_none : (m : Bool) → z ≡ pick m (neg_ℤ (pos n)) (pos n) → (SFits w32 z → ⊥) → out_of_range ≡ in_range m n
+  unfolding pick
+  range_none true e f = elim (dec_le n lowest) [
+    | yes l ↦ absurd (f (subst (SFits w32) (sym e) (minus_fits n l)))
+    | no l ↦ range_too_low true n refl (omega arith)
+  ]
+  range_none false e f = elim (dec_le n highest) [
+    | yes l ↦ absurd (f (subst (SFits w32) (sym e) (record { sfits = omega arith })))
+    | no l ↦ range_too_high false n refl (omega arith)
+  ]
+
+  -- as `i32::try_from` answers of an i64
+  module _ (m : Bool) (is : z ≡ pick m (neg_ℤ (pos n)) (pos n)) (bound : mag z < 2 ^ 63) where
+    wide : to_z w64 (of_z w64 z) ≡ z
+    wide = to_z-of_z w64 z (record { sfits = bound })
+
+    pub range_in : (r : ℤ) → SFits w32 (to_z w64 (of_z w64 z)) → r ≡ to_z w64 (of_z w64 z) → number (to_z w32 (of_z w32 r)) ≡ in_range m n
+    range_in r f e =
+        let g : SFits w32 z = subst (SFits w32) wide f in
+        rw (e ∙ wide, to_z-of_z w32 z g) (range_some m is g)
+
+    pub range_out : (SFits w32 (to_z w64 (of_z w64 z)) → ⊥) → out_of_range ≡ in_range m n
+    range_out f = range_none m is (λ g. f (subst (SFits w32) (sym wide) g))
+
+pub ruleset range_laws = (range_in, range_out)
+
+-- `&s[a..]` is lent as the first `length s - a` of what is past a
+rest : (s : List ℕ) (a : ℕ) → take (length s - a) (drop a s) ≡ drop a s
+rest s a = take_all (length s - a) (drop a s) (rw length-drop (le_refl _))
 
 -- ── stripped at the start ──
 start_skip : (x : ℕ) (s : List ℕ) → is_space x ≡ true → strip_start (x ∷ s) ≡ strip_start s
@@ -88,7 +131,14 @@ pub starting_all : (s : List ℕ) (i : ℕ) → Starting s i → length s ≤ i 
 unfolding strip_start
 starting_all s i g h = record { is = g.same ∙ rw drop_of_length-le; within = g.within }
 
-pub ruleset start_laws = (starting_none, starting_more, starting_stop, starting_all)
+-- the text that is handed on: the rest from the first byte that is no space, or nothing
+pub start_rest : (s : List ℕ) (i : ℕ) (t : Bool) → Starting s i → i < length s → t ≡ is_space (get_or s i 0) → not t ≡ true → take (length s - i) (drop i s) ≡ strip_start s
+start_rest s i t g h e d = rest s i ∙ sym ((starting_stop s i t g h e d).is)
+
+pub start_nothing : (s : List ℕ) (i : ℕ) → Starting s i → length s ≤ i → [] ≡ strip_start s
+start_nothing s i g h = sym ((starting_all s i g h).is ∙ drop_of_length-le s {i = i} h)
+
+pub ruleset start_laws = (starting_none, starting_more)
 
 -- ── stripped at the end ──
 end_skip : (t : List ℕ) (x : ℕ) → is_space x ≡ true → strip_end (t ++ (x ∷ [])) ≡ strip_end t
@@ -134,7 +184,11 @@ pub ending_all : (s : List ℕ) (e : ℕ) → Ending s e → e ≤ 0 → Cut (st
 unfolding strip_end
 ending_all s e g h = let z : e ≡ 0 = omega arith in record { is = g.same ∙ rw z; within = g.within }
 
-pub ruleset end_laws = (ending_none, ending_more, ending_stop, ending_all)
+-- the text that is handed on, up to the last byte that is no space
+pub end_front : (s : List ℕ) (e : ℕ) (t : Bool) → Ending s e → 0 < e → t ≡ is_space (get_or s (e - 1) 0) → not t ≡ true → take (e - 1 + 1) s ≡ strip_end s
+end_front s e t g h d n = let k : e - 1 + 1 ≡ e = omega arith in rw k (sym ((ending_stop s e t g h d n).is))
+
+pub ruleset end_laws = (ending_none, ending_more, ending_all)
 
 -- ── digits ──
 digit_yes : (x : ℕ) → 48 ≤ x → x ≤ 57 → is_digit x ≡ true
@@ -213,10 +267,6 @@ module _ (m : Bool) (s : List ℕ) (n i : ℕ) where
 pub ruleset digit_laws = (digits_none, digits_low, digits_high, digits_more, digits_all)
 
 -- ── the four ways of a text without spaces at its ends ──
--- `&s[a..]` is lent as the first `length s - a` of what is past a
-rest : (s : List ℕ) (a : ℕ) → take (length s - a) (drop a s) ≡ drop a s
-rest s a = take_all (length s - a) (drop a s) (rw length-drop (le_refl _))
-
 pub whole_empty : (s : List ℕ) → length s ≡ 0 → no_number ≡ whole_number s
 unfolding whole_number
 whole_empty [] h = refl
@@ -241,17 +291,3 @@ whole_plain [] v h e d = absurd (h refl)
 whole_plain (x ∷ s) v h e d = rw (ne_eqb x 45 e) d
 
 pub ruleset whole_laws = (whole_empty, whole_sign, whole_minus, whole_plain)
-
--- ── the text, stripped at both ends ──
-pub stripped_long : (s : List ℕ) (a e : ℕ) →
-    Cut (strip_end (take (length s - a) (drop a s))) (take e (take (length s - a) (drop a s))) e (length (take (length s - a) (drop a s))) →
-    e ≡ length (take e (take (length s - a) (drop a s)))
-stripped_long s a e g = simp (length-take, length-drop) (omega (arith, simp (length-take, length-drop) at g.within))
-
-pub value_is : (s : List ℕ) (a e : ℕ) (v : Value) → Cut (strip_start s) (drop a s) a (length s) →
-    Cut (strip_end (take (length s - a) (drop a s))) (take e (take (length s - a) (drop a s))) e (length (take (length s - a) (drop a s))) →
-    v ≡ whole_number (take e (take (length s - a) (drop a s))) → v ≡ text_value s
-unfolding text_value
-value_is s a e v g h d = d ∙ ap whole_number (sym h.is ∙ ap strip_end (rest s a ∙ sym g.is))
-
-pub ruleset text_laws = (stripped_long, value_is)

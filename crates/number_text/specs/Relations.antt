@@ -1,4 +1,4 @@
--- The six relations, by their number in the book.
+-- The six relations, by their number in the book: what each asks of two numbers, and which it is.
 use Rattle.std.specs.Prelude.{◌≡◌, refl, Bool, true, false, ℕ, eqb, ℤ}
 use Rattle.std.proofs.Common.{ap, sym, ◌∙◌, true≢false, SFits, to_z, of_z}
 use Rattle.std.proofs.Math.Bool.{not}
@@ -7,7 +7,7 @@ use Rattle.std.specs.Int.{w32}
 use Rattle.std.proofs.lemmas.Int.{to_z-of_z}
 use borrow.Author.Tests.{eq-eqb, ne_eqb}
 use Rattle.lists.specs.Choice.{pick}
-use Rattle.rules.specs.State.{equal, related}
+use Rattle.rules.specs.State.{equal, differs, below, at_most, above, at_least, related}
 use Rattle.rules.proofs.State.Laws.{equal_is}
 use Rattle.rules.specs.Book.{relation_of}
 
@@ -46,3 +46,31 @@ module _ (x : ℕ) (a b : ℤ) where
   is_at_least e f g h i = simp (ne_eqb _ _ e, ne_eqb _ _ f, ne_eqb _ _ g, ne_eqb _ _ h, ne_eqb _ _ i)
 
 pub ruleset relation_laws = (is_equal, is_different, is_below, is_at_most, is_above, is_at_least)
+
+-- which relation a number is
+module _ (x : ℕ) where
+  pub of_equal : x ≡ 1 → equal ≡ relation_of x
+  unfolding relation_of pick
+  of_equal e = rw e
+
+  pub of_different : x ≡ 2 → differs ≡ relation_of x
+  unfolding relation_of pick
+  of_different e = rw e
+
+  pub of_below : x ≡ 3 → below ≡ relation_of x
+  unfolding relation_of pick
+  of_below e = rw e
+
+  pub of_at_most : x ≡ 4 → at_most ≡ relation_of x
+  unfolding relation_of pick
+  of_at_most e = rw e
+
+  pub of_above : x ≡ 5 → above ≡ relation_of x
+  unfolding relation_of pick
+  of_above e = rw e
+
+  pub of_at_least : (x ≡ 1 → ⊥) → (x ≡ 2 → ⊥) → (x ≡ 3 → ⊥) → (x ≡ 4 → ⊥) → (x ≡ 5 → ⊥) → at_least ≡ relation_of x
+  unfolding relation_of pick
+  of_at_least e f g h i = simp (ne_eqb _ _ e, ne_eqb _ _ f, ne_eqb _ _ g, ne_eqb _ _ h, ne_eqb _ _ i)
+
+pub ruleset from_laws = (of_equal, of_different, of_below, of_at_most, of_above, of_at_least)

@@ -1,88 +1,85 @@
-// The value of a text as an i32, and the six signed comparisons. Its `pub` is for sister crates only; neither
-// function has a premise, and neither is a public call.
+// The value of a text as an i32, and the six signed comparisons. Its `pub` is for sister crates only; none of its
+// `pub` functions has a premise, and none is a public call.
 // Crate rules says what a text's value is (Value) and what the relations are (State); specs/Meant says which of those
 // values an answer is. Read specs/Meant first, then text_value from the bottom up. Read next: set_leaves.
 #![tactic(auto)]
 
-ghost use Rattle.std.specs.Prelude.{◌≡◌, ◌≤◌, length, take, drop, pos, neg_ℤ};
-ghost use Rattle.rules.specs.Value.{lowest, is_space, strip_start, strip_end, in_range, digits_from, whole_number};
-ghost use Rattle.rules.specs.Value.{text_value};
+ghost use Rattle.std.specs.Prelude.{◌≡◌, ◌^◌, ◌<◌, ◌≤◌, pos, neg_ℤ};
+ghost use Rattle.lists.specs.Choice.{pick};
+ghost use Rattle.rules.specs.Value.{is_space, strip_start, strip_end, in_range, digits_from, whole_number, text_value};
 ghost use Rattle.rules.specs.State.{related as stands};
 ghost use Rattle.rules.specs.Book.{relation_of};
-ghost use Rattle.number_text.specs.Meant.{meant};
-ghost use Rattle.number_text.specs.Laws.{Cut, Next};
+ghost use Rattle.number_text.specs.Meant.{meant, meant_relation};
+ghost use Rattle.number_text.specs.Laws.{Next};
 
 // How far down a value may lie.
 const LOWEST: u64 = 2147483648;
 
-// And how far up.
-const HIGHEST: u64 = 2147483647;
-
-#[derive(Clone, Copy)]
+#[derive(Clone, Copy, Debug, PartialEq, Eq)]
 pub enum Value {
     Number(i32),
     NoNumber,
     OutOfRange,
 }
 
+// The paper's four; is_ascii_whitespace has form feed too.
 fn space(x: u8) -> bool
     ensures { result ≡ is_space x }
 {
-    (x == b' ') | (x == b'\t') | (x == b'\r') | (x == b'\n')
+    matches!(x, b' ' | b'\t' | b'\r' | b'\n')
 }
 
-// -n, also where that is the lowest value: 2,147,483,648 is no i32, so the number below it is turned over.
-fn negated(n: u64) -> i32
-    requires { n ≤ lowest }
-    ensures { result ≡ neg_ℤ (pos n) }
-{
-    if n == 0 { 0 } else { !((n - 1) as i32) }
-}
-
-fn in_range(minus: bool, n: u64) -> Value
-    ensures { meant result ≡ in_range minus n }
+// n with its sign.
+#[tactic(auto, using(crate::specs::Laws::signed_laws))]
+fn signed(minus: bool, n: u64) -> i64
+    requires { n < 2 ^ 63 }
+    ensures { result ≡ pick minus (neg_ℤ (pos n)) (pos n) }
 {
     if minus {
-        if n <= LOWEST {
-            Value::Number(negated(n))
-        } else {
-            Value::OutOfRange
-        }
+        -n.cast_signed()
     } else {
-        if n <= HIGHEST {
-            Value::Number(n as i32)
-        } else {
-            Value::OutOfRange
-        }
+        n.cast_signed()
     }
 }
 
-// Where the text starts after its spaces.
-fn strip_start(s: &[u8]) -> usize
-    ensures { Cut (strip_start s.now) (drop result s.now) result (length s.now) }
+// The value of the whole number n with its sign.
+#[tactic(auto, using(crate::specs::Laws::range_laws))]
+fn in_range(minus: bool, n: u64) -> Value
+    requires { n < 2 ^ 63 }
+    ensures { meant result ≡ in_range minus n }
 {
-    let mut i = 0;
-    while i < s.len() {
+    match i32::try_from(signed(minus, n)) {
+        Ok(z) => Value::Number(z),
+        Err(_) => Value::OutOfRange,
+    }
+}
+
+// The text without the spaces at its start.
+#[tactic(auto, using(crate::specs::Laws::start_laws))]
+fn strip_start(s: &[u8]) -> &[u8]
+    ensures { result.now ≡ strip_start s.now }
+{
+    // A for: what is left after each byte has its law.
+    for i in 0..s.len() {
         if !space(s[i]) {
-            return i;
+            return &s[i..];
         }
-        i += 1;
     }
-    i
+    &[]
 }
 
-// Where the text ends before its spaces.
-fn strip_end(s: &[u8]) -> usize
-    ensures { Cut (strip_end s.now) (take result s.now) result (length s.now) }
+// The text without the spaces at its end.
+#[tactic(auto, using(crate::specs::Laws::end_laws))]
+fn strip_end(s: &[u8]) -> &[u8]
+    ensures { result.now ≡ strip_end s.now }
 {
-    let mut e = s.len();
-    while 0 < e {
-        if !space(s[e - 1]) {
-            return e;
+    // A for: what is left before each byte has its law.
+    for i in (0..s.len()).rev() {
+        if !space(s[i]) {
+            return &s[..=i];
         }
-        e -= 1;
     }
-    e
+    &[]
 }
 
 // One digit more; past the range it stays past the range.
@@ -91,67 +88,86 @@ fn next(n: u64, x: u8) -> u64
     ensures { Next n x result }
 {
     if n <= LOWEST {
-        n * 10 + (x - b'0') as u64
+        n * 10 + u64::from(x - b'0')
     } else {
         LOWEST + 1
     }
 }
 
+#[tactic(auto, using(crate::specs::Laws::digit_laws))]
 fn digits(s: &[u8], minus: bool) -> Value
     ensures { meant result ≡ digits_from minus 0 s.now }
 {
-    let mut n: u64 = 0;
-    let mut i = 0;
-    while i < s.len() {
-        let x = s[i];
-        if x < b'0' {
+    let mut n = 0;
+    for x in s {
+        if !x.is_ascii_digit() {
             return Value::NoNumber;
         }
-        if b'9' < x {
-            return Value::NoNumber;
-        }
-        n = next(n, x);
-        i += 1;
+        n = next(n, *x);
     }
     in_range(minus, n)
 }
 
 // The whole number that a text without spaces at its ends says.
+#[tactic(auto, using(crate::specs::Laws::whole_laws))]
 fn whole_number(s: &[u8]) -> Value
     ensures { meant result ≡ whole_number s.now }
 {
-    if s.len() == 0 {
-        return Value::NoNumber;
-    }
-    if s[0] == b'-' {
-        if s.len() == 1 {
-            return Value::NoNumber;
-        }
-        digits(&s[1..], true)
-    } else {
-        digits(s, false)
+    match s {
+        [] | [b'-'] => Value::NoNumber,
+        [b'-', rest @ ..] => digits(rest, true),
+        _ => digits(s, false),
     }
 }
 
+#[tactic(auto, unfolding(rules::specs::Value::text_value))]
 pub fn text_value(s: &[u8]) -> Value
     ensures { meant result ≡ text_value s.now }
 {
-    let a = strip_start(s);
-    let t = &s[a..];
-    let e = strip_end(t);
-    whole_number(&t[..e])
+    whole_number(strip_end(strip_start(s)))
 }
 
-// Whether a stands in the relation to b; the relation by its number in the book.
-pub fn related(relation: u64, a: i32, b: i32) -> bool
-    ensures { result ≡ stands (relation_of relation) a b }
-{
-    match relation {
-        1 => a == b,
-        2 => a != b,
-        3 => a < b,
-        4 => a <= b,
-        5 => a > b,
-        _ => a >= b,
+// The relations that a LEAF may ask of a value: =, ≠, <, ≤, >, ≥.
+#[derive(Clone, Copy, PartialEq, Eq, Debug)]
+pub enum Relation {
+    Equal,
+    Differs,
+    Below,
+    AtMost,
+    Above,
+    AtLeast,
+}
+
+// A relation by its number in the book.
+impl From<u64> for Relation {
+    ghost from_gives = { λ number r. meant_relation r ≡ relation_of number };
+
+    #[tactic(auto, using(crate::specs::Relations::from_laws))]
+    fn from(number: u64) -> Relation {
+        match number {
+            1 => Relation::Equal,
+            2 => Relation::Differs,
+            3 => Relation::Below,
+            4 => Relation::AtMost,
+            5 => Relation::Above,
+            _ => Relation::AtLeast,
+        }
+    }
+}
+
+impl Relation {
+    // Whether a stands in the relation to b.
+    #[tactic(auto, using(crate::specs::Relations::relation_laws))]
+    pub fn related(self, a: i32, b: i32) -> bool
+        ensures { result ≡ stands (meant_relation self) a b }
+    {
+        match self {
+            Relation::Equal => a == b,
+            Relation::Differs => a != b,
+            Relation::Below => a < b,
+            Relation::AtMost => a <= b,
+            Relation::Above => a > b,
+            Relation::AtLeast => a >= b,
+        }
     }
 }

@@ -13,81 +13,79 @@
 // The inner call asked the slot's question gives its answer and leaves the counts: `inner` and `answer`.
 #![tactic(auto)]
 
+use day_run::Total;
+use memory_question::Answered;
+use refusals::Refusal;
+use std::fmt::Display;
 use std::io;
 
-fn put(rt: &impl Print, n: u64) -> io::Result<()> {
-    print!(rt; " {n}")
-}
+// The second filter's id, and one that no filter has.
+const IDS: [u32; 2] = [1414746705, 8];
 
-// A line: a word and some numbers.
-fn put_line(rt: &impl Print, word: &[u8], w: &[u64]) -> io::Result<()> {
-    rt.write_all(word)?;
-    let mut k: usize = 0;
-    while k < w.len() {
-        put(rt, w[k])?;
-        k += 1;
+// A line: a word and some values. Programs share no crate, so each has its own.
+fn put_line<T: Display>(rt: &impl Print, word: &str, values: &[T]) -> io::Result<()> {
+    print!(rt; "{word}")?;
+    for x in values {
+        print!(rt; " {x}")?;
     }
     println!(rt)
 }
 
-// A line: a word and some bytes.
-fn put_bytes(rt: &impl Print, word: &[u8], w: &[u8]) -> io::Result<()> {
-    rt.write_all(word)?;
-    let mut k: usize = 0;
-    while k < w.len() {
-        put(rt, number_bytes::byte(w, k))?;
-        k += 1;
-    }
-    println!(rt)
+// A line: a word, and what a run or a pass gives.
+fn put_total(rt: &impl Print, word: &str, t: Total) -> io::Result<()> {
+    println!(rt; "{word} {} {} {} {}", t.refusal, t.asked, t.anew, t.filled)
 }
 
 fn but_the_last(w: &[u8]) -> &[u8] {
-    if w.len() == 0 {
-        return w;
+    match w {
+        [front @ .., _] => front,
+        [] => w,
     }
-    &w[0..w.len() - 1]
+}
+
+// The number of a refusal, 0 where nothing is refused.
+fn number(checked: Result<(), Refusal>) -> u64 {
+    checked.err().map_or(0, u64::from)
 }
 
 fn check_both(rt: &impl Print, book: &[u8], day: &[u8]) -> io::Result<()> {
-    let cut = but_the_last(book);
+    let books = [book, but_the_last(book)];
     put_line(
         rt,
-        b"book",
-        &[book_check::check_book(book), book_check::check_book(cut)],
+        "book",
+        &books.map(|b| number(book_check::check_book(b))),
     )?;
-    let short = but_the_last(day);
-    put_line(
-        rt,
-        b"day",
-        &[day_check::check_day(day), day_check::check_day(short)],
-    )
+    let days = [day, but_the_last(day)];
+    put_line(rt, "day", &days.map(|d| number(day_check::check_day(d))))
 }
 
 fn find_bodies(rt: &impl Print, book: &[u8]) -> io::Result<()> {
-    let found = book_filter_body::part_of(book, 1414746705);
-    put_line(rt, b"part", &[found.start as u64, found.length as u64])?;
-    let none = book_filter_body::part_of(book, 8);
-    put_line(rt, b"part", &[none.start as u64, none.length as u64])?;
-    put_bytes(rt, b"body", book_filter_body::filter_body(book, 1414746705))?;
-    put_bytes(rt, b"body", book_filter_body::filter_body(book, 8))
+    for id in IDS {
+        let part = book_filter_body::part_of(book, id);
+        println!(rt; "part {} {}", part.start, part.length)?;
+    }
+    for id in IDS {
+        put_line(rt, "body", book_filter_body::filter_body(book, id))?;
+    }
+    Ok(())
 }
 
 fn run_it(rt: &impl Print, book: &[u8], day: &[u8], memory: &mut [u64]) -> io::Result<()> {
     let mut answers = [9u64; 2 * day_row::ROW];
     let mut workspace = [5u64; message_levels::WORKSPACE];
-    let r = day_run::run(book, day, memory, &mut answers, &mut workspace);
-    put_line(rt, b"run", &[r.refusal, r.asked, r.anew, r.filled as u64])?;
-    put_line(rt, b"rows", &answers)?;
-    put_line(rt, b"slot", memory)
+    let given = day_run::run(book, day, memory, &mut answers, &mut workspace);
+    put_total(rt, "run", Total::from(given))?;
+    put_line(rt, "rows", &answers)?;
+    put_line(rt, "slot", memory)
 }
 
 // The pass from the slot and the counts that the run left.
 fn pass_it(rt: &impl Print, book: &[u8], day: &[u8], memory: &mut [u64]) -> io::Result<()> {
     let mut answers = [9u64; 2 * day_row::ROW];
     let mut workspace = [5u64; message_levels::WORKSPACE];
-    let r = day_run::pass_from(book, day, memory, &mut answers, &mut workspace, 2, 2, 1);
-    put_line(rt, b"pass", &[r.refusal, r.asked, r.anew, r.filled as u64])?;
-    put_line(rt, b"rows", &answers)
+    let given = day_run::pass_from(book, day, memory, &mut answers, &mut workspace, 2, 2, 1);
+    put_total(rt, "pass", Total::from(given))?;
+    put_line(rt, "rows", &answers)
 }
 
 // The inner call, asked what the slot asks.
@@ -96,9 +94,10 @@ fn ask_it(rt: &impl Print, book: &[u8], memory: &mut [u64]) -> io::Result<()> {
     q[0] = 4;
     q[memory_slots::LABEL] = 1;
     let mut answer = [9u64; memory_slots::ANSWER];
-    let r = memory_question::answer_question(book, memory, 1, 3, &q, &mut answer);
-    put_line(rt, b"inner", &[r.refusal, r.anew, r.filled as u64])?;
-    put_line(rt, b"answer", &answer)
+    let given = memory_question::answer_question(book, memory, 1, 3, &q, &mut answer);
+    let a = Answered::from(given);
+    println!(rt; "inner {} {} {}", a.refusal, a.anew, a.filled)?;
+    put_line(rt, "answer", &answer)
 }
 
 fn main(rt: HostRuntime) -> io::Result<()> {

@@ -44,6 +44,7 @@ impl From<Refusal> for u64 {
     ghost from_gives = { λ e n. n ≡ number_of e };
 
     fn from(e: Refusal) -> u64 {
+        // A case's number: only as reads it.
         e as u64
     }
 }

@@ -1,5 +1,6 @@
 // Sets of states: eight 64-bit numbers, each function one equation to rules/specs/Sets.antt. Its `pub` is for sister
 // crates only.
+// A set is a slice and no array: it is a part of what is lent, and may be longer.
 // State k is bit k mod 64 of number k div 64. Read next: set_complete, which completes a set by a plan.
 #![tactic(auto)]
 
@@ -22,6 +23,7 @@ pub fn has(set: &[u64], k: usize) -> bool
 }
 
 // A bit is taken out by first putting it in: no branch on what it was.
+#[tactic(auto, using(rules::proofs::Sets::Laws::put_on, rules::proofs::Sets::Laws::put_off))]
 pub fn put(set: &mut [u64], k: usize, b: bool)
     requires { (set_width ≤ length set.old) × (k < most_states) }
     ensures { set.new ≡ with_bit set.old k b }
@@ -36,13 +38,13 @@ pub fn put(set: &mut [u64], k: usize, b: bool)
 }
 
 // Joins another set to a set.
+#[tactic(auto, using(crate::specs::Join::join_laws))]
 pub fn join(set: &mut [u64], other: &[u64])
     requires { (length set.old ≡ set_width) × (length other.now ≡ set_width) }
     ensures { set.new ≡ either set.old other.now }
 {
-    let mut i = 0;
-    while i < WIDTH {
-        set[i] = set[i] | other[i];
-        i += 1;
+    // By number: each of the eight has its law.
+    for (i, number) in set.iter_mut().enumerate() {
+        *number |= other[i];
     }
 }

@@ -2,7 +2,7 @@
 use Rattle.std.specs.Prelude.{◌≡◌, Bool, false, List, get_or}
 use Rattle.std.proofs.Math.Path.{sym, ap}
 use Rattle.std.proofs.Common.{◌∙◌, Fits}
-use Prim.Native.Nat.{ℕ, suc, ◌+◌, ◌-◌, ◌*◌, ◌<◌, ◌≤◌}
+use Prim.Native.Nat.{ℕ, suc, ◌-◌, ◌<◌, ◌≤◌}
 use native.Mathlib.Omega.{arith}
 use Rattle.std.proofs.Math.Decide.{dec_lt}
 use Rattle.std.proofs.Math.ListN.{length, replicate}
@@ -14,15 +14,16 @@ use Rattle.rules.proofs.Match.Settle.{completes_rests, completed_law, completed_
 use Rattle.rules.specs.Leading.{Inside}
 use Rattle.rules.proofs.Sets.Laws.{Upto}
 use Rattle.rules.specs.OneBit.{put}
-use Rattle.book_plan.specs.Plan.{plan_width, plan_state, state_in, state_count, states_in, Planned}
-use Rattle.book_plan.proofs.Plan.{states_long, states_at}
+use Rattle.book_plan.specs.declared.State as plan
+use Rattle.book_plan.specs.Plan.{state_in, state_count, states_in, WellLed}
+use Rattle.book_plan.proofs.Laws.{states_long, states_at}
 use Rattle.book_plan.proofs.Putting.{Putting, putting_down, plan_inside, no_bit, far_bit, planned_bit, planned_past, planned_ext}
 
 -- the completed set as eight numbers
 unfoldable pub completed_set : List State → List ℕ → List ℕ
 completed_set b ws = set_of b (λ s k. completed b ws k)
 
-pub completed_bit : (p : List ℕ) (ws : List ℕ) (j : ℕ) → Planned p → j < most_states →
+pub completed_bit : (p : List plan.State) (ws : List ℕ) (j : ℕ) → WellLed p → j < most_states →
     has (completed_set (states_in p) ws) j ≡ completed (states_in p) ws j
 unfolding completed_set
 completed_bit p ws j q h = elim (dec_lt j (state_count p)) [
@@ -31,11 +32,11 @@ completed_bit p ws j q h = elim (dec_lt j (state_count p)) [
       planned_past p q (λ s k. completed (states_in p) ws k) j (omega arith) h ∙ sym (completed_past (states_in p) ws j (omega arith))
 ]
 
-abbrev pub Completing : List ℕ → List ℕ → List ℕ → ℕ → Type 0
+abbrev pub Completing : List plan.State → List ℕ → List ℕ → ℕ → Type 0
 Completing p ws s i = (set_width ≤ length ws) × Putting p (λ j. false) (has (completed_set (states_in p) ws)) i s
 
-module _ (p : List ℕ) (ws : List ℕ) where
-  pub completing_none : (o s : List ℕ) → Planned p → set_width ≤ length ws → length o ≡ set_width → s ≡ replicate (length o) 0 →
+module _ (p : List plan.State) (ws : List ℕ) where
+  pub completing_none : (o s : List ℕ) → WellLed p → set_width ≤ length ws → length o ≡ set_width → s ≡ replicate (length o) 0 →
       ((k : ℕ) → Fits w64 (get_or s k 0)) → Completing p ws s (state_count p)
   unfolding completed_set
   completing_none o s q v h z w = (
@@ -53,7 +54,7 @@ module _ (p : List ℕ) (ws : List ℕ) where
   )
 
   -- one state's bit from the bits above it
-  turn : (s : List ℕ) (k : ℕ) → Planned p → k < state_count p → Upto (λ j. false) (has (completed_set (states_in p) ws)) (suc k) s →
+  turn : (s : List ℕ) (k : ℕ) → WellLed p → k < state_count p → Upto (λ j. false) (has (completed_set (states_in p) ws)) (suc k) s →
       completes (state_in p k) (has ws k) (has s) ≡ has (completed_set (states_in p) ws) k
   turn s k q h u =
       let b : List State = states_in p in
@@ -67,9 +68,8 @@ module _ (p : List ℕ) (ws : List ℕ) where
       ∙ sym (completed_bit p ws k q (omega (arith, q.few)) ∙ rw e at (completed_law b ws k (omega arith) (rw e (q.higher k h))))
 
   pub completing_more : (s t : List ℕ) (i : ℕ) (x : Bool) → Completing p ws s i → 0 < i →
-      x ≡ completes (plan_state (get_or p (plan_width * (i - 1)) 0) (get_or p (plan_width * (i - 1) + 1) 0) (get_or p (plan_width * (i - 1) + 2) 0)) (has ws (i - 1)) (has s) →
+      x ≡ completes (state_in p (i - 1)) (has ws (i - 1)) (has s) →
       t ≡ put s (i - 1) x → ((k : ℕ) → Fits w64 (get_or t k 0)) → Completing p ws t (i - 1)
-  unfolding state_in
   completing_more s t i x c h e f w =
       let z : suc (i - 1) ≡ i = omega arith in (
         c.0,
@@ -78,7 +78,7 @@ module _ (p : List ℕ) (ws : List ℕ) where
       )
 
   pub completing_inside : (s : List ℕ) (i : ℕ) → Completing p ws s i → 0 < i →
-      Inside (plan_state (get_or p (plan_width * (i - 1)) 0) (get_or p (plan_width * (i - 1) + 1) 0) (get_or p (plan_width * (i - 1) + 2) 0)) most_states
+      Inside (state_in p (i - 1)) most_states
   completing_inside s i c h = plan_inside p (i - 1) c.1.plan (omega (arith, c.1.within))
 
   pub completing_all : (s : List ℕ) (i : ℕ) → Completing p ws s i → i ≤ 0 → s ≡ completed_set (states_in p) ws

@@ -1,3 +1,2 @@
--- What the code says of one state, and what its loop over the states has completed after some turns.
-pub mod OneState
+-- What the loop over the states has completed after some turns.
 pub mod Completing

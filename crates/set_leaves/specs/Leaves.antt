@@ -3,7 +3,7 @@ use Rattle.std.specs.Prelude.{◌≡◌, true, false, ◌||◌, List, length, ge
 use Rattle.std.proofs.Math.Path.{refl, ap}
 use Rattle.std.proofs.Common.{sym, ◌∙◌, arith, Fits}
 use Rattle.std.proofs.Math.Bool.{Bool, or-true, or-false}
-use Prim.Native.Nat.{ℕ, ◌+◌, ◌*◌, ◌^◌, ◌<◌, ◌≤◌}
+use Prim.Native.Nat.{ℕ, ◌+◌, ◌<◌, ◌≤◌}
 use Rattle.std.proofs.Math.Decide.{dec_lt}
 use Rattle.std.specs.Int.{w64}
 use Rattle.lists.specs.Choice.{pick}
@@ -13,10 +13,11 @@ use Rattle.rules.specs.Book.{most_states}
 use Rattle.rules.specs.Sets.{set_width, has, either, is_leaf_of, leaves_of}
 use Rattle.rules.proofs.Sets.Laws.{set_ext, set_of_fits, either_long, either_fits, has_either}
 use Rattle.rules.specs.OneBit.{put}
-use Rattle.book_plan.specs.Plan.{plan_width, plan_state, state_in, state_count, states_in, Planned}
+use Rattle.book_plan.specs.declared.State as plan
+use Rattle.book_plan.specs.Plan.{state_in, state_count, states_in, WellLed}
 use Rattle.book_plan.proofs.Putting.{Putting, putting_up, putting_skip, planned_bit, planned_past}
 
-module _ (p : List ℕ) (q : Planned p) (v : Value) (ws : List ℕ) where
+module _ (p : List plan.State) (q : WellLed p) (v : Value) (ws : List ℕ) where
   joined_bit : (j : ℕ) → j < state_count p → has (either ws (leaves_of (states_in p) v)) j ≡ has ws j || is_leaf_of v (state_in p j)
   unfolding leaves_of
   joined_bit j h = has_either ws (leaves_of (states_in p) v) j (omega (arith, q.few)) ∙ ap (λ (t : Bool). has ws j || t) (planned_bit p q (λ s k. is_leaf_of v s) j h)
@@ -46,17 +47,17 @@ unfolding leaf_joined pick
 joins_none s v k set x e g = rw (← e, g) refl
 
 -- ws is what was lent, s what it is
-abbrev pub Leafing : List ℕ → Value → List ℕ → List ℕ → ℕ → Type 0
+abbrev pub Leafing : List plan.State → Value → List ℕ → List ℕ → ℕ → Type 0
 Leafing p v ws s i = ((k : ℕ) → Fits w64 (get_or ws k 0)) × Putting p (has (either ws (leaves_of (states_in p) v))) (has ws) i s
 
-module _ (p : List ℕ) (v : Value) (ws : List ℕ) where
-  pub leafing_none : Planned p → length ws ≡ set_width → ((k : ℕ) → Fits w64 (get_or ws k 0)) → Leafing p v ws ws 0
+module _ (p : List plan.State) (v : Value) (ws : List ℕ) where
+  pub leafing_none : WellLed p → length ws ≡ set_width → ((k : ℕ) → Fits w64 (get_or ws k 0)) → Leafing p v ws ws 0
   leafing_none q h w = (w, record { plan = q; within = omega arith; numbers = w; bits = record { long = h; below = λ j u. absurd (omega arith); above = λ j u m. refl } })
 
   pub leafing_more : (s t : List ℕ) (i : ℕ) → Leafing p v ws s i → i < state_count p →
-      t ≡ leaf_joined (plan_state (get_or p (plan_width * i) 0) (get_or p (plan_width * i + 1) 0) (get_or p (plan_width * i + 2) 0)) v i s →
+      t ≡ leaf_joined (state_in p i) v i s →
       ((k : ℕ) → Fits w64 (get_or t k 0)) → Leafing p v ws t (i + 1)
-  unfolding state_in leaf_joined pick
+  unfolding leaf_joined pick
   leafing_more s t i c h e w =
       let st : State = state_in p i in
       let is : has (either ws (leaves_of (states_in p) v)) i ≡ has ws i || is_leaf_of v st = joined_bit p c.1.plan v ws i h in
@@ -73,9 +74,6 @@ module _ (p : List ℕ) (v : Value) (ws : List ℕ) where
           let same : t ≡ s = rw x at f in
           rw same (putting_skip p all (has ws) i s c.1 h (sym (is ∙ ap (λ (y : Bool). has ws i || y) x ∙ or-false (has ws i))))
 
-  pub leafing_small : (s : List ℕ) (i : ℕ) → Leafing p v ws s i → i < state_count p → get_or p (plan_width * i + 2) 0 < 2 ^ 32
-  leafing_small s i c h = c.1.plan.small i h
-
   pub leafing_all : (s : List ℕ) (i : ℕ) → Leafing p v ws s i → state_count p ≤ i → s ≡ either ws (leaves_of (states_in p) v)
   leafing_all s i c h =
       joined_ext p c.1.plan v ws s c.1.bits.long c.0 c.1.numbers (λ j u. elim (dec_lt j i) [
@@ -83,4 +81,4 @@ module _ (p : List ℕ) (v : Value) (ws : List ℕ) where
         | no m ↦ c.1.bits.above j (omega arith) u ∙ sym (joined_past p c.1.plan v ws j (omega arith) u)
       ])
 
-pub ruleset leaves_laws = (leafing_none, leafing_more, leafing_all, leafing_small)
+pub ruleset leaves_laws = (leafing_none, leafing_more, leafing_all)

@@ -1,3 +1,2 @@
--- What the code says of one state, and what its loop over the states has joined after some turns.
-pub mod OneState
+-- The loop that joins the LEAF states of a value.
 pub mod Leaves

@@ -1,3 +1,3 @@
--- What the code says of one state, what its loop over the states has answered after some turns, and the working out.
-pub mod OneState
+-- Whether a label fits, what the loop over the states has answered after some turns, and the working out.
+pub mod Labels
 pub mod Answering

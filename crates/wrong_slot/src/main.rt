@@ -18,39 +18,27 @@
 ghost use Rattle.std.specs.Prelude.{◌*◌, ◌≤◌, length};
 ghost use Rattle.rules.specs.Memory.{slot_width};
 
+use day_run::Total;
+use memory_question::Answered;
 use std::io;
 
 const FULL: u64 = 18446744073709551615;
 
-fn put(rt: &impl Print, n: u64) -> io::Result<()> {
-    print!(rt; " {n}")
-}
-
-// A line: a word and w's numbers at places from up to to.
-fn put_part(rt: &impl Print, word: &[u8], w: &[u64], from: usize, to: usize) -> io::Result<()>
-    requires in_order { from ≤ to }
-    requires inside { to ≤ length w.now }
-{
-    rt.write_all(word)?;
-    let mut k = from;
-    while k < to {
-        put(rt, w[k])?;
-        k += 1;
+// A line: a word and some numbers. Programs share no crate, so each has its own.
+fn put_line(rt: &impl Print, word: &str, numbers: &[u64]) -> io::Result<()> {
+    print!(rt; "{word}")?;
+    for x in numbers {
+        print!(rt; " {x}")?;
     }
     println!(rt)
 }
 
-fn put_slots(rt: &impl Print, memory: &[u64]) -> io::Result<()>
-    requires { 2 * slot_width ≤ length memory.now }
-{
-    put_part(rt, b"slot", memory, 0, memory_slots::SLOT)?;
-    put_part(
-        rt,
-        b"slot",
-        memory,
-        memory_slots::SLOT,
-        2 * memory_slots::SLOT,
-    )
+// A line for each slot.
+fn put_slots(rt: &impl Print, memory: &[u64]) -> io::Result<()> {
+    for slot in memory.chunks_exact(memory_slots::SLOT) {
+        put_line(rt, "slot", slot)?;
+    }
+    Ok(())
 }
 
 // The wrong answer in slot 1.
@@ -68,9 +56,10 @@ fn ask_it(rt: &impl Print, book: &[u8], memory: &mut [u64]) -> io::Result<()> {
     let mut q = [0u64; memory_slots::QUESTION];
     q[memory_slots::LABEL] = 2;
     let mut answer = [0u64; set_bits::WIDTH];
-    let r = memory_question::answer_question(book, memory, 1, 5, &q, &mut answer);
-    put_part(rt, b"inner", &[r.refusal, r.anew, r.filled as u64], 0, 3)?;
-    put_part(rt, b"answer", &answer, 0, set_bits::WIDTH)
+    let given = memory_question::answer_question(book, memory, 1, 5, &q, &mut answer);
+    let a = Answered::from(given);
+    println!(rt; "inner {} {} {}", a.refusal, a.anew, a.filled)?;
+    put_line(rt, "answer", &answer)
 }
 
 // The pass from the one filled slot.
@@ -79,15 +68,10 @@ fn pass_it(rt: &impl Print, book: &[u8], memory: &mut [u64]) -> io::Result<()> {
         b"\x01\x00\x0a\x00\x00\x00\x0c\x00\x00\x00\x01\x01\x00\x01\x02\x00\x03\x02\x00\x03\x01\x00";
     let mut answers = [9u64; day_row::ROW];
     let mut workspace = [5u64; message_levels::WORKSPACE];
-    let r = day_run::pass_from(book, day, memory, &mut answers, &mut workspace, 0, 5, 1);
-    put_part(
-        rt,
-        b"pass",
-        &[r.refusal, r.asked, r.anew, r.filled as u64],
-        0,
-        4,
-    )?;
-    put_part(rt, b"row", &answers, 0, day_row::ROW)
+    let given = day_run::pass_from(book, day, memory, &mut answers, &mut workspace, 0, 5, 1);
+    let t = Total::from(given);
+    println!(rt; "pass {} {} {} {}", t.refusal, t.asked, t.anew, t.filled)?;
+    put_line(rt, "row", &answers)
 }
 
 fn main(rt: HostRuntime) -> io::Result<()> {

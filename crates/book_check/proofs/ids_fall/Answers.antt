@@ -1,16 +1,11 @@
-use borrow.Author.Rules.{rules}
-use Rattle.lists.specs.Below.Searched.{searched_none}
-use Rattle.book_check.specs.Steps.{ids_next, ids_hit, ids_all}
+use Rattle.std.proofs.Common.{◌∙◌, refl, rules}
+use borrow.Author.Tests.{tests}
+use Rattle.lists.specs.Below.Ranges.{any_between}
+use Rattle.book_contents.specs.BookAccepted.{falls_at}
+use Rattle.book_check.specs.Steps.{falls_before, falls_next, ids_is}
 use Rattle.book_check.proofs.ids_fall.Goals as goal
 
-pub loop-k-init : goal.loop-k-init
-loop-k-init c = search (searched_none, rules)
-
-pub returns-then-falls_at : goal.returns-then-falls_at
-returns-then-falls_at c = search (ids_hit, rules)
-
-pub loop-k-preserved : goal.loop-k-preserved
-loop-k-preserved c = search (ids_next, rules)
-
 pub returns : goal.returns
-returns c = search (ids_all, rules)
+returns c =
+    let b = c.args.book.now in
+    any_between (falls_before b) (falls_at b) 1 _ c.any.ensures.ran refl (λ x t q k. search (rules, tests)) (falls_next b) ∙ ids_is b _ c.filter_count-f.ensures.0

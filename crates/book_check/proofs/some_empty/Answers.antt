@@ -1,16 +1,11 @@
-use borrow.Author.Rules.{rules}
-use Rattle.lists.specs.Below.Searched.{searched_none}
-use Rattle.book_check.specs.Steps.{sizes_next, sizes_hit, sizes_all}
+use Rattle.std.proofs.Common.{◌∙◌, ap, refl, rules}
+use borrow.Author.Tests.{tests}
+use Rattle.lists.specs.Below.{some_below}
+use Rattle.lists.specs.Below.Ranges.{any_below}
+use Rattle.book_contents.specs.BookAccepted.{empty_at}
 use Rattle.book_check.proofs.some_empty.Goals as goal
 
-pub loop-k-init : goal.loop-k-init
-loop-k-init c = search (searched_none, rules)
-
-pub returns-then-body_size-eq0 : goal.returns-then-body_size-eq0
-returns-then-body_size-eq0 c = search (sizes_hit, rules)
-
-pub loop-k-preserved : goal.loop-k-preserved
-loop-k-preserved c = search (sizes_next, rules)
-
 pub returns : goal.returns
-returns c = search (sizes_all, rules)
+returns c =
+    any_below (empty_at c.args.book.now) _ c.any.ensures.ran refl (λ x b q k. search (rules, tests))
+    ∙ ap (some_below (empty_at c.args.book.now)) c.filter_count.ensures.0

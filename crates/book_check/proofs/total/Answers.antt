@@ -1,12 +1,6 @@
 use borrow.Author.Rules.{rules}
-use Rattle.book_check.specs.Steps.{summed_none, summed_next, summed_all}
+use Rattle.book_check.specs.Steps.{summed_none}
 use Rattle.book_check.proofs.total.Goals as goal
 
 pub loop-k-init : goal.loop-k-init
 loop-k-init c = search (summed_none, rules)
-
-pub loop-k-preserved : goal.loop-k-preserved
-loop-k-preserved c = search (summed_next, rules)
-
-pub returns : goal.returns
-returns c = search (summed_all, rules)

@@ -1,39 +1,12 @@
-use borrow.Author.Rules.{rules}
-use Rattle.book_planner.specs.Make.{make_laws}
+use Rattle.std.proofs.Common.{arith}
+use Rattle.book_planner.specs.Make.{making_leads, making_more, making_all}
 use Rattle.book_planner.proofs.make.Goals as goal
 
-pub filter_count-f-requires : goal.filter_count-f-requires
-filter_count-f-requires c = search (make_laws, rules)
-
-pub loop-k-init : goal.loop-k-init
-loop-k-init c = search (make_laws, rules)
-
-pub body_size-n-requires : goal.body_size-n-requires
-body_size-n-requires c = search (make_laws, rules)
-
-pub body_start-requires : goal.body_start-requires
-body_start-requires c = search (make_laws, rules)
-
-pub body-requires : goal.body-requires
-body-requires c = search (make_laws, rules)
-
-pub overflow_add-base : goal.overflow_add-base
-overflow_add-base c = search (make_laws, rules)
-
-pub overflow_add-k : goal.overflow_add-k
-overflow_add-k c = search (make_laws, rules)
-
-pub loop-k-smaller : goal.loop-k-smaller
-loop-k-smaller c = search (make_laws, rules)
+pub body-requires-clause-leads : goal.body-requires-clause-leads
+body-requires-clause-leads c = rw c.bytes.ensures.same (making_leads _ _ _ c.loop-k.invariant (omega arith) c.body_start.ensures.0 c.body_size.ensures.0)
 
 pub loop-k-preserved : goal.loop-k-preserved
-loop-k-preserved c = search (make_laws, rules)
-
-pub overflow_mul-result : goal.overflow_mul-result
-overflow_mul-result c = search (make_laws, rules)
-
-pub shape_of-plan : goal.shape_of-plan
-shape_of-plan c = search (make_laws, rules)
+loop-k-preserved c = making_more _ _ _ c.loop-k.invariant (omega arith) c.body_start.ensures.0 c.body_size.ensures.0 _ (rw c.bytes.ensures.same at c.body.ensures)
 
 pub returns : goal.returns
-returns c = search (make_laws, rules)
+returns c = making_all _ _ _ c.loop-k.invariant (omega arith)

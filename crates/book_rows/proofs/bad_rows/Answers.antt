@@ -1,19 +1,9 @@
-use borrow.Author.Rules.{rules}
-use Rattle.lists.specs.Below.Searched.{searched_none, searched_next, searched_hit, searched_all}
-use Rattle.book_rows.specs.Rows.{inside, body_is, bad_rows_is}
+use Rattle.std.proofs.Common.{not, rules}
+use borrow.Author.Tests.{tests}
+use Rattle.rules.specs.Book.{row_at, bad_rows}
+use Rattle.book_rows.specs.Rows.{some_states}
 use Rattle.book_rows.proofs.bad_rows.Goals as goal
 
-pub loop-k-init : goal.loop-k-init
-loop-k-init c = search (searched_none, rules)
-
-pub bad_rows_of-requires : goal.bad_rows_of-requires
-bad_rows_of-requires c = search (inside, rules)
-
-pub returns-then-bad_rows_of : goal.returns-then-bad_rows_of
-returns-then-bad_rows_of c = search (bad_rows_is, searched_hit, body_is, rules)
-
-pub loop-k-preserved : goal.loop-k-preserved
-loop-k-preserved c = search (searched_next, body_is, rules)
-
 pub returns : goal.returns
-returns c = search (bad_rows_is, searched_all, rules)
+unfolding bad_rows
+returns c = let b = c.args.book.now in some_states b (λ at i n. not (row_at b at)) _ c.some_state.ensures (λ at i n t a. search (rules, tests))

@@ -1,9 +1,5 @@
 use Rattle.day_pass.specs.Passing.{Passing}
-use Prim.Native.Nat.{◌-◌}
 use Rattle.day_pass.proofs.all.Given as goal
 
 abbrev pub invariant-loop-k : goal.invariant-loop-k
-invariant-loop-k l = Passing l.book l.day l.initial.index l.initial.memory l.initial.answers l.initial.workspace l.initial.c l.count l.index l.memory l.answers l.workspace l.c l.k
-
-abbrev pub decreases-loop-k : goal.decreases-loop-k
-decreases-loop-k l = l.count - l.k
+invariant-loop-k l = Passing l.book l.day l.plan l.initial.index l.initial.memory l.initial.answers l.initial.workspace l.initial.c l.count l.index l.memory l.answers l.workspace l.c l.k

@@ -1,12 +1,10 @@
-use Rattle.day_pass.specs.Passing.{body_few, message_read}
-use borrow.Author.Rules.{rules}
+use Rattle.day_pass.specs.Passing.{body_can_read, message_written}
+use Rattle.std.proofs.Common.{arith}
 use Rattle.day_pass.proofs.message.Goals as goal
 
-pub read-e-requires : goal.read-e-requires
-read-e-requires c = record {
-  can_read = record { planned = search rules; indexed = search rules; asked_rises = search (body_few, rules); anew_rises = search (body_few, rules) };
-  levels_lent = search rules;
-}
+pub read-e-requires-clause-can_read : goal.read-e-requires-clause-can_read
+read-e-requires-clause-can_read c = body_can_read _ _ _ _ _ _ _ _ _ _ c.message_body-body.ensures.body c.message_body-body.ensures.accepted (omega arith) c.requires.message_ready
 
-pub returns : goal.returns
-returns c = record { message_read = search (message_read, rules); indexed = search rules }
+pub returns-clause-message_written : goal.returns-clause-message_written
+returns-clause-message_written c =
+    message_written _ _ _ _ _ _ _ _ _ _ _ _ _ _ _ c.requires.message_ready c.message_body-body.ensures.body c.message_body-body.ensures.accepted c.read-e.ensures.read_message c.root_filters-filters.ensures c.write_row.ensures

@@ -5,12 +5,8 @@ use Rattle.memory_ask.proofs.ask.Goals as goal
 pub recall-requires : goal.recall-requires
 recall-requires c = search (found_room, rules)
 
-pub work_anew-requires : goal.work_anew-requires
-work_anew-requires c = record {
-  can_ask = search rules;
-  hashed = search rules;
-  unasked = found_none _ _ _ _ c.find.ensures c.in-Nothing.is;
-}
+pub work_anew-requires-clause-unasked : goal.work_anew-requires-clause-unasked
+work_anew-requires-clause-unasked c = found_none _ _ _ _ c.find.ensures c.in-None.is
 
-pub returns-in-At : goal.returns-in-At
-returns-in-At c = record { answered = search (ask_found, rules); indexed = search rules }
+pub returns-in-Some-clause-answered : goal.returns-in-Some-clause-answered
+returns-in-Some-clause-answered c = search (ask_found, rules)

@@ -3,4 +3,4 @@ use borrow.Author.Rules.{rules}
 use Rattle.message_levels.proofs.clear.Goals as goal
 
 pub returns : goal.returns
-returns c = search (levels_clear, rules)
+returns c = search (levels_clear, c.fill.ensures.after (λ y e. e), rules)

@@ -1,8 +1,5 @@
 use Rattle.number_text.specs.Laws.{Ending}
 use Rattle.number_text.proofs.strip_end.Given as goal
 
-abbrev pub invariant-loop-e : goal.invariant-loop-e
-invariant-loop-e l = Ending l.s l.e
-
-abbrev pub decreases-loop-e : goal.decreases-loop-e
-decreases-loop-e l = l.e
+abbrev pub invariant-loop-i : goal.invariant-loop-i
+invariant-loop-i l = Ending l.s l.i

@@ -1,15 +1,16 @@
-use Rattle.set_leaves.specs.Leaves.{leaves_laws}
 use borrow.Author.Rules.{rules}
+use Rattle.std.proofs.Common.{◌∙◌}
+use Rattle.set_leaves.specs.Leaves.{leafing_more, joins_leaf, joins_none}
 use Rattle.set_leaves.proofs.leaves.Goals as goal
+use Rattle.set_leaves.proofs.leaves.Goals.{then-leaf, else-leaf}
 
-pub loop-i-init : goal.loop-i-init
-loop-i-init c = search (leaves_laws, c.type_inv.set, rules)
-
-pub join_leaf-requires : goal.join_leaf-requires
-join_leaf-requires c = search (leaves_laws, rules)
-
-pub loop-i-preserved : goal.loop-i-preserved
-loop-i-preserved c = search (leaves_laws, c.type_inv.set, rules)
-
-pub returns : goal.returns
-returns c = search (leaves_laws, rules)
+pub loop-k-preserved : goal.loop-k-preserved
+loop-k-preserved c =
+    elim c.if-leaf.branch [
+      | then-leaf w ↦
+          leafing_more _ _ _ _ _ _ c.loop-k.invariant (search rules) (joins_leaf _ _ _ _ _ _ c.leaf.ensures w.if-leaf.true (w.set-is ∙ w.put.ensures))
+          (rw w.set-is (search rules))
+      | else-leaf w ↦
+          leafing_more _ _ _ _ _ _ c.loop-k.invariant (search rules) (w.set-is ∙ joins_none _ _ _ _ _ c.leaf.ensures w.if-leaf.false)
+          (rw w.set-is c.loop-k.invariant.1.numbers)
+    ]

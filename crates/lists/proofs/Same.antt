@@ -1,0 +1,3 @@
+-- Laws and examples of lists that are the same.
+pub mod Comparing
+pub mod Examples
