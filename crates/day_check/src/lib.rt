@@ -23,7 +23,7 @@ const MESSAGES: usize = 4096;
 const BYTES: usize = 1048576;
 
 #[tactic(auto, unfolding(rules::specs::DayFile::message_count))]
-fn message_count(day: &[u8]) -> usize
+pub fn message_count(day: &[u8]) -> usize
     requires { 2 ≤ length day.now }
     ensures { (result ≡ message_count day.now) × (result < 65536) }
 {

@@ -22,6 +22,7 @@ fn is_attribute(label: u64) -> bool
 
 // Where no start may stand: in an attribute; an attribute at the top or after a child element or a text; an element
 // after a text, or a second one at the top.
+// The stage comes as its number, here and below, as the level holds it.
 fn start_astray(depth: usize, label: u64, stage: u64, x: u64) -> bool
     ensures { result ≡ start_astray depth label stage x }
 {
