@@ -16,10 +16,11 @@ Each form of an assumption was tried on a crate, and this is what the toolchain 
     an earlier run's results, as `rt check` and `rt lib` take them        proved: `incremental=trusted`
 
 So a library shows its C functions only by what it names. That is asked of crates.txt and of the files: a library names the tree's own
-crates and nothing else, but for std's `Model` and `Range`, each by a line of its own. And it is asked of the prover's list of what it loaded: of libc and os no module, of the tree the crates that are
-reached, and no other. The static library, which every engine crate is part of, is said by the prover to reach no C function. In what the
-prover said no other line, and no other word, may stand. A crate that `rt ci` proved in an earlier run, from the same files, has a line that
-says so in place of all these; the static library has its own lines always, since `rt lib` says them anew.
+crates and nothing else, but for std's `Model` and `Range`, each by a line of its own. And it is asked of the prover's list of what it
+loaded: of libc and os no module, of the tree the crates that are reached, and no other. The static library, which every engine crate is
+part of, is said by the prover to reach no C function. In what the prover said no other line, and no other word, may stand; where nothing is
+kept, `rt lib` asks it first for nothing, and it says `only=0 proved=0`. A crate that `rt ci` proved in an earlier run, from the same files,
+has a line that says so in place of all these; the static library has its own lines always, since `rt lib` says them anew.
 """
 import glob
 import os
@@ -42,7 +43,7 @@ LOADED = re.compile(r"(statements|library) (\w+): modules loaded=(\d+) checked=\
 OWN = re.compile(r"crate (\w+): modules loaded=\d+ checked=\d+")
 AXIOMS = re.compile(r"axioms (\w+): (.*) ?(?:of the|\(\d+ of the) \d+ declared\)?")
 KEPT = re.compile(r"rt: (\w+) is kept: an earlier run on this machine proved the same files over the same libraries")
-PASSED_OVER = re.compile(r"(?:\S+:\d+:\d+: )?note: |logic /|linked target=|rt: |checked \S+, \d+ of \d+|empty contracts: 0 found; |warning: \d")
+PASSED_OVER = re.compile(r"(?:\S+:\d+:\d+: )?note: |logic /|linked target=|only=0 proved=0$|rt: |checked \S+, \d+ of \d+|empty contracts: 0 found; |warning: \d")
 WORDS = [r"logic=proved", r"functions=\d+", r"sum=[0-9a-f]+", r"native=nat,char,string", r"logic-built=trusted",
          r"libraries-built=trusted", r"statements=trusted"]
 LINKED = [r"target=x86_64-unknown-linux-gnu", r"cpu=x86-64-v\d"]

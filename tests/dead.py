@@ -9,7 +9,7 @@ file outside the lines that define them. Proofs count. A function or a constant 
 own body calls or names it. An example of a file `Examples` and an exported call are used by nobody: a page must cite them.
 
 A page cites a name between backticks: by itself, as `crate::name`, or as `crate.File.name`, perhaps without the crate.
-CHANGELOG.md, docs/PORT.md and docs/DESIGN-PASS.md are left out: they have old names.
+CHANGELOG.md, docs/PORT.md, docs/DESIGN-PASS.md and docs/LOOK-BACK.md are left out: they have old names.
 """
 import re
 import sys

@@ -13,6 +13,7 @@ import sys
 import tempfile
 
 from command_cases import words_of
+from house import LONG
 from program_cases import difference, filters, hold, nested, rows
 from small_day import (CALL, DAY, LATE, LEAF, NOT, OR, SERVICE, SMALL_BOOK, SMALL_DAY, STEP, TRUE, book, call, day, end, node, start,
                        state, text, u16, u32)
@@ -525,7 +526,7 @@ def called(case, programs):
             os.makedirs(os.path.dirname(os.path.join(folder, path)), exist_ok=True)
             with open(os.path.join(folder, path), "wb") as f:
                 f.write(data)
-        done = subprocess.run([programs[case.program], *case.words], cwd=folder, input=case.given, capture_output=True, timeout=60)
+        done = subprocess.run([programs[case.program], *case.words], cwd=folder, input=case.given, capture_output=True, timeout=LONG)
         left = {}
         for path in case.leaves or {}:
             there = os.path.join(folder, path)

@@ -3,9 +3,9 @@
 
 header.py LIBRARY      CC and CXX name other compilers, with flags if need be; without a C++ compiler that part is left out, with a message
 
-What no program can see, the names and the order of parameters, is held against crates/exported. second_header.c holds
-the header against second/under_test.h, which declares the same calls for the comparison. The Rust example repeats some of
-its constants.
+What no program can see, the names and the order of parameters, is held against crates/exported, and what the library needs
+from outside against what nm says. second_header.c holds the header against second/under_test.h, which declares the same
+calls for the comparison. The Rust example repeats some of its constants.
 """
 import concurrent.futures
 import glob
@@ -84,6 +84,15 @@ def in_rust():
         yield "examples/rust/small.rs repeats no constant"
 
 
+def needed(library):
+    """What the library takes from outside is what the header says."""
+    listed = subprocess.run(["nm", "-P", library], capture_output=True, text=True, check=True).stdout
+    symbols = re.findall(r"^(\S+) (\w)\b", listed, re.M)
+    needs = {name for name, kind in symbols if kind in "Uvw"} - {name for name, kind in symbols if kind not in "Uvw"}
+    if "and needs nothing but %s.\n" % ", ".join(sorted(needs)) not in read("include/esquirmell.h"):
+        yield "the library needs %s, and the header does not say so" % (", ".join(sorted(needs)) or "nothing")
+
+
 def called(words):
     done = subprocess.run(words, cwd=TOP, capture_output=True, text=True)
     return [] if done.returncode == 0 else ["%s: %s" % (" ".join(words[:3]), done.stdout + done.stderr)]
@@ -110,7 +119,7 @@ def compiled(library):
 def main():
     if len(sys.argv) != 2:
         sys.exit(__doc__)
-    wrong = [*as_exported(), *all_named(), *in_rust(), *compiled(os.path.abspath(sys.argv[1]))]
+    wrong = [*as_exported(), *all_named(), *in_rust(), *needed(sys.argv[1]), *compiled(os.path.abspath(sys.argv[1]))]
     end_if_wrong("header", wrong)
     print("header: every constant, field and call is as the library has it")
 

@@ -15,6 +15,7 @@ import sys
 TOP = os.path.dirname(os.path.dirname(os.path.abspath(__file__)))
 MADE = {"out", "target"}  # folders that rt and the scripts make
 WIDTH = 120
+LONG = 600  # seconds: beside proofs, and at the lowest priority, a moment becomes minutes; what hangs is ended
 
 
 def read(path):

@@ -80,9 +80,9 @@ class Page:
 
 
 def texts():
-    """Every page that is written for the tree as it is; CHANGELOG.md, docs/PORT.md and docs/DESIGN-PASS.md have old names."""
+    """Every page that is written for the tree as it is; CHANGELOG.md, docs/PORT.md, docs/DESIGN-PASS.md and docs/LOOK-BACK.md have old names."""
     found = [path for shape in ("*.md", "*/*.md") for path in glob.glob(os.path.join(TOP, shape))]
-    return sorted({os.path.relpath(path, TOP) for path in found} - {"CHANGELOG.md", "docs/PORT.md", "docs/DESIGN-PASS.md"})
+    return sorted({os.path.relpath(path, TOP) for path in found} - {"CHANGELOG.md", "docs/PORT.md", "docs/DESIGN-PASS.md", "docs/LOOK-BACK.md"})
 
 
 def refusal_words():

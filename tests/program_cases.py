@@ -16,6 +16,7 @@ import termios
 import threading
 import time
 
+from house import LONG
 from small_day import (CALL, DAY, NOT, OR, SERVICE, SMALL_BOOK, SMALL_DAY, STEP, TRUE,
                        book, day, end, node, start, state, text, u16, u32)
 
@@ -116,8 +117,10 @@ def of_size(size, messages=1):
 def in_pieces(data):
     """In the place of a file: a pipe that hands its data over in pieces, the second once the first is read."""
     def hand_over(path):
-        with contextlib.suppress(BrokenPipeError), open(path, "wb", buffering=0) as pipe:
+        # Not unbuffered: the system may end a write early, where the program is paused meanwhile, and this writes on.
+        with contextlib.suppress(BrokenPipeError), open(path, "wb") as pipe:
             pipe.write(data[:9])
+            pipe.flush()
             for _ in itertools.takewhile(lambda n: n < 5000 and waiting_in(pipe), itertools.count()):
                 time.sleep(0.001)
             pipe.write(data[9:])
@@ -221,7 +224,7 @@ def ran(words, the_book, the_day):
     with tempfile.TemporaryDirectory() as folder:
         write(os.path.join(folder, "book.bin"), the_book)
         write(os.path.join(folder, "day.bin"), the_day)
-        done = subprocess.run(words, cwd=folder, capture_output=True, timeout=60)
+        done = subprocess.run(words, cwd=folder, capture_output=True, timeout=LONG)
     return done.returncode, done.stdout.decode(), done.stderr.decode()
 
 

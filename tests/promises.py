@@ -13,8 +13,8 @@ The forms themselves and a few words of the languages are in OWN_WORDS.
 On the other pages names are shorter: a file without its folders, `File.name` without its crate, `Type::name`, or a text
 that stands in the source just so. In a path CRATE, NAME and * stand for anything. A command of Python names a script and
 words that stand in the source. What has no letter is a number or a sign; other notation that is no name is in NOTATION,
-page by page. Left out are the line of the toolchain, which ./test compares, and CHANGELOG.md, docs/PORT.md and
-docs/DESIGN-PASS.md, which have old names.
+page by page. Left out are the line of the toolchain, which ./test compares, and CHANGELOG.md, docs/PORT.md,
+docs/DESIGN-PASS.md and docs/LOOK-BACK.md, which have old names.
 """
 import functools
 import glob

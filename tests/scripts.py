@@ -14,7 +14,7 @@ import signal
 import subprocess
 import tempfile
 
-from house import TOP, end_if_wrong, read, under
+from house import LONG, TOP, end_if_wrong, read, under
 
 TOOLS = ["bash", "cat", "date", "dirname", "env", "find", "flock", "grep", "head", "mkdir", "mktemp", "mv", "nice", "nproc", "python3",
          "realpath", "rm", "sed", "setsid", "sleep", "tail", "tee", "touch", "wc"]
@@ -53,7 +53,7 @@ lib)
 ci)
   [ "$PWD" -ef "$top" ] || exit 9
   flock -n "$top" true && echo free >>"$top/calls"
-  setsid sleep 60 >/dev/null 2>&1 &
+  setsid sleep 900 >/dev/null 2>&1 &
   echo $! >"$top/sleeper"
   [ -e "$top/well" ] || exit 1
   echo 'rt: lists proved'
@@ -96,7 +96,7 @@ class Room:
     def ran(self, *words, **more):
         """Status, standard output and standard error of a script."""
         process = self.started(*words, **more)
-        out, err = process.communicate(timeout=60)
+        out, err = process.communicate(timeout=LONG)
         return process.returncode, out, err
 
     def calls(self):
@@ -215,7 +215,7 @@ def waits(room):
         said = process.stderr.readline()
         early = process.poll() is not None
         fcntl.flock(folder, fcntl.LOCK_UN)
-        out, err = process.communicate(timeout=60)
+        out, err = process.communicate(timeout=LONG)
     yield from differs("./run while another builds", (said, early, out, err), ("esquirmell: %s\n" % WAITING, False, "0 run a\n", ""))
     os.remove(os.path.join(room.bare, "flock"))
     with room.held():
@@ -230,7 +230,7 @@ def the_gate(room):
         process = room.started("./test")
         said = process.stdout.readline()
         fcntl.flock(folder, fcntl.LOCK_UN)
-        out = process.communicate(timeout=60)[0]
+        out = process.communicate(timeout=LONG)[0]
     yield from differs("./test while another builds", said, "waiting: ./esquirmell or another ./test is at work here\n")
     yield from differs("what ./test ends with", (process.returncode, "FAILED: rt ci ended with status 1" in out), (1, True))
     yield from differs("rt's calls by ./test", room.calls()[-2:], ["version", "ci"])

@@ -3,7 +3,7 @@
 use Rattle.std.specs.Prelude.{◌≡◌, Bool, false, not, List, ℕ, ◌+◌, ◌*◌, ◌<◌, ◌≤◌, length, get_or}
 use Rattle.std.proofs.Common.{arith}
 use Rattle.lists.specs.Below.{AnyBelow, some_below}
-use Rattle.lists.specs.Below.Laws.{some_below_is}
+use Rattle.lists.proofs.Below.Any.{some_below_is}
 use Rattle.rules.specs.Bytes.{le2}
 use Rattle.rules.specs.Book.{state_width, filter_count, body_start, body_size, bodies_astray, is_row, leads_well, row_at, leads_at}
 use Rattle.book_contents.specs.BookAccepted.{places, states_rise}

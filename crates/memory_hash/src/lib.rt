@@ -41,8 +41,9 @@ pub fn hash(q: &[u64]) -> usize
     ensures { (result ≡ hash_of q.now) × (result < heads) }
 {
     let mut joined = 0;
-    for (w, (a, b)) in q.iter().zip(&MOVES) {
-        joined ^= lane(*w, *a, *b);
+    // Along the pairs, of which there are nine to whoever compiles it: a zip with q is not unrolled.
+    for (i, (a, b)) in MOVES.iter().enumerate() {
+        joined ^= lane(q[i], *a, *b);
     }
     // A u64 has no From into usize: as.
     (joined >> 32) as usize % HEADS

@@ -1,12 +1,11 @@
 -- The laws that the code of the index is proved by: one for each way through it.
-use Rattle.std.specs.Prelude.{◌≡◌, refl, Option as Answer, None, Some, is_some, Bool, true, false, List, [], ◌∷◌, ◌++◌, nat_eq, length, get_or, set, replicate}
+use Rattle.std.specs.Prelude.{◌≡◌, refl, Option as Answer, None, Some, is_some, Bool, true, false, List, ◌++◌, length, get_or, set, replicate}
 use Rattle.std.proofs.Math.Path.{sym, ap}
 use Rattle.std.proofs.Common.{◌∙◌, arith, add-one, true≢false}
 use Rattle.std.proofs.lemmas.Bool.{false≢true}
 use Rattle.std.proofs.lemmas.List.{replicate-append-replicate, length-replicate, get_or_append_left, get_or-append-add, set-append_left, set-append_right}
 use Rattle.std.proofs.Math.Option.{none, some}
 use Prim.Native.Nat.{ℕ, zero, suc, ◌+◌, ◌-◌, ◌≤◌, ◌<◌}
-use Rattle.std.specs.Cmp.Lexicographic.{pointwise}
 use Rattle.lists.specs.Choice.{pick}
 use Rattle.lists.specs.Same.{same_list}
 use Rattle.rules.specs.Sets.{set_width}
@@ -127,17 +126,6 @@ module _ (m q : List ℕ) (n p : ℕ) (w : Walking m q n p) (more : 0 < p) where
 pub walking_all : (m q : List ℕ) (n p : ℕ) → Walking m q n p → p ≤ 0 → meant None ≡ first_by m n q
 unfolding meant
 walking_all m q n p w h = let e : p ≡ 0 = omega arith in sym (first_none m (question_in q)) ∙ rw e at w.left
-
--- `==` on slices is the definitions' comparison of two lists
-same_is : (l q : List ℕ) → pointwise nat_eq l q ≡ same_list l q
-unfolding same_list
-same_is [] [] = refl
-same_is [] (y ∷ q) = refl
-same_is (x ∷ l) [] = refl
-same_is (x ∷ l) (y ∷ q) = rw (same_is l q)
-
-pub same_by : (l q : List ℕ) (b : Bool) → b ≡ pointwise nat_eq l q → b ≡ same_list l q
-same_by l q b e = e ∙ same_is l q
 
 -- ── `enter` ──
 pub entering : (x : List ℕ) (n h v : ℕ) → v ≡ n + 1 → set (set x (heads + n) (get_or x h 0)) h v ≡ entered x n h

@@ -49,9 +49,16 @@ module _ (book w room m : List ℕ) (a f n : ℕ) (checked : n ≡ question_refu
       ap (λ (x : List ℕ × Carried). record { refusal = 0; reply = record { answer = x.0; kept = x.1.kept } }) e
       ∙ sym (pick_true _ _ _ (eq-eqb _ _ (sym checked ∙ z)))
 
+  pub book_accepted : n ≡ 0 → book_refusal book ≡ 0
+  book_accepted z = go (book_refusal book) refl
+    where
+      go : (k : ℕ) → book_refusal book ≡ k → book_refusal book ≡ 0
+      go zero d = d
+      go (suc k) d = refused_book lent_now (book_refusal book) refl (λ e. omega arith) ∙ sym checked ∙ z
+
   pub answerable : n ≡ 0 → Answerable m (counted a f) w room
   answerable z =
-      let fine : book_refusal book ≡ 0 = book_passes (book_refusal book) refl in
+      let fine : book_refusal book ≡ 0 = book_accepted z in
       let one = first_zero 18 _ _ (omega arith) (sym (past_book lent_now (book_refusal book) refl fine) ∙ sym checked ∙ z) in
       let two = first_zero 14 _ _ (omega arith) one.1 in
       let three = first_zero 19 _ _ (omega arith) two.1 in
@@ -63,10 +70,6 @@ module _ (book w room m : List ℕ) (a f n : ℕ) (checked : n ≡ question_refu
         asked = omega arith;
         anew = leb-false _ _ three.0;
       }
-    where
-      book_passes : (k : ℕ) → book_refusal book ≡ k → book_refusal book ≡ 0
-      book_passes zero d = d
-      book_passes (suc k) d = refused_book lent_now (book_refusal book) refl (λ e. omega arith) ∙ sym checked ∙ z
 
 -- a refusal handed on by `?`
 pub refuses_on : (book w room m : List ℕ) (a f : ℕ) (r : Result Kept Refusal) (e : Refusal) → number_of e ≡ question_refusal (lent_so book w room m a f)

@@ -131,14 +131,7 @@ pub starting_all : (s : List ℕ) (i : ℕ) → Starting s i → length s ≤ i 
 unfolding strip_start
 starting_all s i g h = record { is = g.same ∙ rw drop_of_length-le; within = g.within }
 
--- the text that is handed on: the rest from the first byte that is no space, or nothing
-pub start_rest : (s : List ℕ) (i : ℕ) (t : Bool) → Starting s i → i < length s → t ≡ is_space (get_or s i 0) → not t ≡ true → take (length s - i) (drop i s) ≡ strip_start s
-start_rest s i t g h e d = rest s i ∙ sym ((starting_stop s i t g h e d).is)
-
-pub start_nothing : (s : List ℕ) (i : ℕ) → Starting s i → length s ≤ i → [] ≡ strip_start s
-start_nothing s i g h = sym ((starting_all s i g h).is ∙ drop_of_length-le s {i = i} h)
-
-pub ruleset start_laws = (starting_none, starting_more)
+pub ruleset start_laws = (starting_none, starting_more, starting_stop, starting_all)
 
 -- ── stripped at the end ──
 end_skip : (t : List ℕ) (x : ℕ) → is_space x ≡ true → strip_end (t ++ (x ∷ [])) ≡ strip_end t

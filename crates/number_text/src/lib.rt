@@ -4,13 +4,13 @@
 // values an answer is. Read specs/Meant first, then text_value from the bottom up. Read next: set_leaves.
 #![tactic(auto)]
 
-ghost use Rattle.std.specs.Prelude.{◌≡◌, ◌^◌, ◌<◌, ◌≤◌, pos, neg_ℤ};
+ghost use Rattle.std.specs.Prelude.{◌≡◌, ◌^◌, ◌<◌, ◌≤◌, drop, length, pos, neg_ℤ};
 ghost use Rattle.lists.specs.Choice.{pick};
 ghost use Rattle.rules.specs.Value.{is_space, strip_start, strip_end, in_range, digits_from, whole_number, text_value};
 ghost use Rattle.rules.specs.State.{related as stands};
 ghost use Rattle.rules.specs.Book.{relation_of};
 ghost use Rattle.number_text.specs.Meant.{meant, meant_relation};
-ghost use Rattle.number_text.specs.Laws.{Next};
+ghost use Rattle.number_text.specs.Laws.{Cut, Next};
 
 // How far down a value may lie.
 const LOWEST: u64 = 2147483648;
@@ -26,7 +26,8 @@ pub enum Value {
 fn space(x: u8) -> bool
     ensures { result ≡ is_space x }
 {
-    matches!(x, b' ' | b'\t' | b'\r' | b'\n')
+    // No branch between the four, as matches! has.
+    (x == b' ') | (x == b'\t') | (x == b'\r') | (x == b'\n')
 }
 
 // n with its sign.
@@ -54,18 +55,25 @@ fn in_range(minus: bool, n: u64) -> Value
     }
 }
 
-// The text without the spaces at its start.
+// How many spaces the text starts with. A place and no part of the text: the loop then has nothing else to count.
 #[tactic(auto, using(crate::specs::Laws::start_laws))]
-fn strip_start(s: &[u8]) -> &[u8]
-    ensures { result.now ≡ strip_start s.now }
+fn spaces(s: &[u8]) -> usize
+    ensures { Cut (strip_start s.now) (drop result s.now) result (length s.now) }
 {
     // A for: what is left after each byte has its law.
     for i in 0..s.len() {
         if !space(s[i]) {
-            return &s[i..];
+            return i;
         }
     }
-    &[]
+    s.len()
+}
+
+// The text without the spaces at its start.
+fn strip_start(s: &[u8]) -> &[u8]
+    ensures { result.now ≡ strip_start s.now }
+{
+    &s[spaces(s)..]
 }
 
 // The text without the spaces at its end.

@@ -20,7 +20,12 @@ fn leaf(state: State, value: Value) -> bool
         (State::Leaf(relation, constant), Value::Number(number)) => relation.related(
             number, constant,
         ),
-        _ => false,
+        (State::Leaf(_, _), Value::NoNumber) => false,
+        (State::Leaf(_, _), Value::OutOfRange) => false,
+        (
+            State::True | State::And(_, _) | State::Or(_, _) | State::Not(_) | State::Step { .. },
+            _,
+        ) => false,
     }
 }
 

@@ -9,7 +9,7 @@ use native.Mathlib.Omega.{arith}
 use Rattle.std.proofs.Math.Decide.{dec_lt}
 use Rattle.std.proofs.Math.ListN.{get_or-append}
 use Rattle.std.proofs.lemmas.List.{get_or_at}
-use Rattle.lists.specs.Below.{AnyBelow, some_below, up_to, bit, flags}
+use Rattle.lists.specs.Below.{some_below, up_to, bit, flags}
 
 -- one that passes is some; a loop stops at it
 pub some_below_hit : (p : ℕ → Bool) (n i : ℕ) → i < n → p i ≡ true → some_below p n ≡ true
@@ -36,16 +36,6 @@ some_below_each p n i h l = go (p i) refl
     go : (t : Bool) → p i ≡ t → p i ≡ false
     go true e = absurd (true≢false (sym (some_below_hit p n i l e) ∙ h))
     go false e = e
-
-some_below_no : (p : ℕ → Bool) (n : ℕ) → ((i : ℕ) → i < n → p i ≡ false) → some_below p n ≡ false
-unfolding some_below
-some_below_no p zero e = refl
-some_below_no p (suc n) e = rw (some_below_no p n (λ i h. e i (omega arith)), e n (omega arith))
-
--- a loop whose every answer is that of a test
-pub some_below_is : (p : ℕ → Bool) {answers : ℕ → Bool → Type 0} (n : ℕ) (r : Bool) → AnyBelow answers n r → ((i : ℕ) (t : Bool) → i < n → answers i t → t ≡ p i) → r ≡ some_below p n
-some_below_is p n true a e = sym (some_below_hit p n a.0 a.1 (sym (e a.0 true a.1 a.2)))
-some_below_is p n false a e = sym (some_below_no p n (λ i h. sym (e i false h (a i h))))
 
 -- a sum over the numbers below n: what it is with number k is at most the whole
 pub sum_rises : (sum size : ℕ → ℕ) → ((k : ℕ) → sum (suc k) ≡ sum k + size k) → (k n : ℕ) → k < n → sum k + size k ≤ sum n

@@ -1,5 +1,6 @@
-use Rattle.memory_hash.specs.Hash.{Joining}
+use Rattle.std.specs.Prelude.{drop}
+use Rattle.memory_hash.specs.Hash.{Joining, moves}
 use Rattle.memory_hash.proofs.hash.Given as goal
 
-abbrev pub invariant-loop-w : goal.invariant-loop-w
-invariant-loop-w l = Joining l.q l.joined l.w-iterator.b.rest.now l.w-iterator.a.rest.now
+abbrev pub invariant-loop-i : goal.invariant-loop-i
+invariant-loop-i l = Joining l.q l.joined (drop l.i moves) (drop l.i l.q)

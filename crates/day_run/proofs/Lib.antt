@@ -1,0 +1,2 @@
+-- That a promise allows one outcome of a call.
+pub mod Alone

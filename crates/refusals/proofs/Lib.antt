@@ -1,0 +1,2 @@
+-- That a result is known by what it comes to.
+pub mod Alone
