@@ -75,8 +75,11 @@ module _ (book day memory answers ws : List ℕ) (asked anew filled : ℕ) where
       go zero d = sym d
       go (suc k) d = absurd (let y : run_refusal l ≡ pass_refusal l from = from_run l from (run_refusal l) refl (λ e. omega arith) in omega arith)
 
+  pub run_files_accepted : run_refusal l ≡ 0 → (book_refusal book ≡ 0) × (day_refusal day ≡ 0)
+  run_files_accepted z = (book_passes l z, day_passes l z)
+
   pub files_accepted : 0 ≡ pass_refusal l from → (book_refusal book ≡ 0) × (day_refusal day ≡ 0)
-  files_accepted z = let runs : run_refusal l ≡ 0 = sym (run_passed z) in (book_passes l runs, day_passes l runs)
+  files_accepted z = run_files_accepted (sym (run_passed z))
 
   pub from_accepts : 0 ≡ pass_refusal l from → RunAccepted day memory answers ws begun
   from_accepts z =

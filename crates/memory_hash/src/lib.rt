@@ -41,7 +41,7 @@ pub fn hash(q: &[u64]) -> usize
     ensures { (result ≡ hash_of q.now) × (result < heads) }
 {
     let mut joined = 0;
-    // Along the pairs, of which there are nine to whoever compiles it: a zip with q is not unrolled.
+    // Along the pairs, whose count is a constant: a zip with q is not unrolled.
     for (i, (a, b)) in MOVES.iter().enumerate() {
         joined ^= lane(q[i], *a, *b);
     }
